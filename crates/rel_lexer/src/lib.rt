@@ -1,10 +1,13 @@
 //! Reads a text into its tokens, which borrow it.
 #![tactic(auto)]
 
-ghost use Rattle.std.specs.Prelude.{◌≡◌, ◌^◌, ◌<◌, length, None, Some, All, IfOk, IfErr};
+ghost use Rattle.std.specs.Prelude.{◌≡◌, ◌^◌, ◌<◌, length, Some, All, IfOk, IfErr};
 ghost use Rattle.rel_lang.specs.Tokens.{tokens};
 ghost use Rattle.rel_lexer.specs.Tokens.{tokens_of, HasKind, MeansNoTokens};
 
+mod parts;
+
+use parts::{Part, next_part};
 use std::alloc::Global;
 
 /// What a token is: a reserved word, another name, a number, or a symbol.
@@ -40,5 +43,23 @@ pub fn lex<'a>(alloc: Global, text: &'a str) -> Result<Vec<Token<'a>>, LexFault>
     ensures kinds { IfOk result (λ v. All HasKind v.items) }
     ensures refused { IfErr result (λ e. MeansNoTokens e text.now) }
 {
-    Err(LexFault::Memory)
+    let mut tokens = Vec::new(alloc);
+    let mut rest = text;
+    let mut at = 0;
+    while !rest.is_empty() {
+        let part = match next_part(rest, at) {
+            Ok(part) => part,
+            Err(fault) => return Err(fault),
+        };
+        let (front, after) = rest.split_at(part.len());
+        if let Part::Token(kind, _) = part {
+            let token = Token { kind, text: front, at };
+            if tokens.push(token).is_err() {
+                return Err(LexFault::Memory);
+            }
+        }
+        at += front.len() as u32;
+        rest = after;
+    }
+    Ok(tokens)
 }
