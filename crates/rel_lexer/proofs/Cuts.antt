@@ -1,5 +1,5 @@
 -- A text cut between two characters, and the characters that a search passes.
-use Rattle.std.proofs.Common.{◌≡◌, ℕ, ◌+◌, ◌-◌, ◌<◌, ◌≤◌, Bool, true, false, not, cond, List, [], ◌∷◌, ◌++◌, length, get_or, take, drop, Option, Some, None, MatchOption, IsUtf8, refl, sym, ap, ◌∙◌, subst, arith, rules, take-append-drop}
+use Rattle.std.proofs.Common.{◌≡◌, ℕ, zero, suc, ◌+◌, ◌-◌, ◌<◌, ◌≤◌, Bool, true, false, not, cond, List, [], ◌∷◌, ◌++◌, length, get_or, take, drop, Option, Some, None, MatchOption, IsUtf8, refl, sym, ap, ◌∙◌, subst, arith, rules, take-append-drop}
 use Rattle.std.specs.Prelude.{take_while}
 use Rattle.std.specs.Option.{unwrap_or}
 use Rattle.std.specs.Str.{chars, IsCharBoundary, NonePass}
@@ -12,7 +12,7 @@ use Rattle.std.specs.List.{starts_with, list_all, prefix_len}
 use Rattle.std.specs.Str.{encode_utf8_all, IsAscii}
 use Rattle.std.specs.Str.Pattern.{HasPrefixMatch, FindsTextPrefix}
 use Rattle.std.proofs.Math.Seq.{take-append_seam}
-use Rattle.std.proofs.lemmas.Str.{IsUtf8-from_ascii, IsCharBoundary-after_ascii, chars-IsAscii, encodes-chars, encodes-IsAscii, encodes-append, encode_ascii}
+use Rattle.std.proofs.lemmas.Str.{IsUtf8-from_ascii, IsCharBoundary-after_ascii, chars-IsAscii, encodes-chars, encodes-IsAscii, encodes-append, encode_ascii, chars-nil}
 use Rattle.std.proofs.lemmas.Str.Ascii.{IsAscii-cons, IsAscii-nil}
 use Rattle.std.proofs.lemmas.Slice.Eq.{bytes_eq-Decides}
 use Rattle.std.proofs.lemmas.Bool.{false_from_ne_true, cond_both, and_from}
@@ -64,8 +64,12 @@ module _ (p t : ℕ → Bool) (opposite : (c : ℕ) → p c ≡ not (t c)) where
     run-either None found = run-not_found found
     run-either (Some i) found = run-found i found
 
-  pub run-searched : (F : List ℕ → Option (ℕ × ℕ) → Type 0) (text : List ℕ) (r : Option ℕ) (n : ℕ) → IsUtf8 text → MatchOption r (F text None) (MatchBeginsAt F text) → n ≡ unwrap_or r (length text) → ((found : Option (ℕ × ℕ)) → F text found → FindsBy t text found) → IsRun p text n
-  run-searched F text r n utf8 found is finds = subst (IsRun p text) (sym is) (run-either F text finds utf8 r found)
+  -- the search by a closure that answers by the test t
+  abbrev pub Searched : ((ℕ → Bool) → Type 0) → List ℕ → Option (ℕ × ℕ) → Type 0
+  Searched M text found = (k : ℕ → Bool) → M k → FindsBy k text found
+
+  pub run-searched : (M : (ℕ → Bool) → Type 0) (text : List ℕ) (r : Option ℕ) (n : ℕ) → IsUtf8 text → MatchOption r (Searched M text None) (MatchBeginsAt (Searched M) text) → n ≡ unwrap_or r (length text) → M t → IsRun p text n
+  run-searched M text r n utf8 found is answers = subst (IsRun p text) (sym is) (run-either (Searched M) text (λ o f. f t answers) utf8 r found)
 
 pub not-not : (b : Bool) → b ≡ not (not b)
 not-not true = refl
@@ -137,3 +141,8 @@ pub take-run_len : (p : ℕ → Bool) (cs : List ℕ) → take (run_len p cs) cs
 take-run_len p cs =
     let front = take_while p cs in
     ap (take (length front)) (sym (take-append-drop (prefix_len p cs) cs)) ∙ take-append_seam front (drop (prefix_len p cs) cs)
+
+-- a cut with a character has a byte
+pub some-from_chars : (text : List ℕ) (n : ℕ) → 0 < length (chars (take n text)) → 0 < n
+some-from_chars text zero some = absurd (omega (arith, ap length chars-nil))
+some-from_chars text (suc n) some = omega arith

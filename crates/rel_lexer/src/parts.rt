@@ -95,7 +95,7 @@ const RESERVED: [&str; 62] = [
 fn is_reserved(text: &str) -> bool
     ensures { result ≡ is_reserved text.now }
 {
-    RESERVED.iter().any(|word| *word == text)
+    RESERVED.iter().any(|word| text == *word)
 }
 
 fn name(rest: &str, first: char) -> Part
@@ -146,7 +146,9 @@ fn symbol(rest: &str, first: char, at: u32) -> Result<Part, LexFault>
 {
     if rest.starts_with("=:=") {
         Ok(Part::Token(Kind::Symbol, 3))
-    } else if rest.starts_with(":=") || rest.starts_with("<=") {
+    } else if rest.starts_with(":=") {
+        Ok(Part::Token(Kind::Symbol, 2))
+    } else if rest.starts_with("<=") {
         Ok(Part::Token(Kind::Symbol, 2))
     } else if is_symbol(first) {
         Ok(Part::Token(Kind::Symbol, 1))

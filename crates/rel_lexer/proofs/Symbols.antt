@@ -1,0 +1,65 @@
+-- Which symbol begins a text.
+use Rattle.std.proofs.Common.{◌≡◌, ℕ, suc, ◌<◌, Bool, true, false, not, cond, ◌&&◌, ◌||◌, List, [], ◌∷◌, length, map, take, drop, IsUtf8, ⊎_elim, refl, sym, ap, ◌∙◌, subst, arith}
+use Rattle.std.specs.Prelude.{codes, nat_eq, nat_lt, ◌==◌}
+use Rattle.std.specs.List.{list_any, list_all, starts_with}
+use Rattle.std.specs.Str.{chars, IsAscii}
+use Rattle.std.proofs.lemmas.Bool.{false≢true, and_parts, and_left, or_cases, or_parts, eqb-true, eq-eqb, ltb-true, not-true, cond-true, cond-false}
+use Rattle.std.proofs.lemmas.Str.{chars-IsAscii}
+use Rattle.std.proofs.lemmas.Str.Ascii.{IsAscii-cons, IsAscii-nil}
+use Rattle.rel_lang.specs.Tokens.{Piece, symbol_piece, symbols, begins_name, is_digit, is_reserved, is_name, has_name_form}
+use Rattle.rel_lang.specs.Tokens.Piece.{token, bad}
+use Rattle.rel_lexer.specs.declared.Kind.{Kind}
+use Rattle.rel_lexer.specs.declared.Kind.TheVariants.{Symbol}
+use Rattle.rel_lexer.specs.Tokens.{IsOfKind}
+use Rattle.rel_lexer.specs.Pieces.{BeginsWith, IsToken, single_symbols}
+use Rattle.rel_lexer.proofs.Cuts.{StartsAs, FirstByte, first_byte, chars-one}
+
+and-true : (b : Bool) → (b && true) ≡ b
+and-true true = refl
+and-true false = refl
+
+abbrev one : ℕ → List ℕ
+one k = k ∷ []
+
+-- a symbol of one character is found by its character
+single-piece : (ks : List ℕ) (c : ℕ) (cs : List ℕ) → symbol_piece (map one ks) (c ∷ cs) ≡ cond (list_any (λ k. k == c) ks) (token 1) bad
+single-piece [] c cs = refl
+single-piece (k ∷ ks) c cs =
+    let tested : starts_with nat_eq (c ∷ cs) (one k) ≡ (k == c) = and-true (k == c) in
+    ap (λ b. cond b (token 1) (symbol_piece (map one ks) (c ∷ cs))) tested ∙ either (k == c) (list_any (λ j. j == c) ks) _ (single-piece ks c cs)
+  where
+    either : (x y : Bool) (p : Piece) → p ≡ cond y (token 1) bad → cond x (token 1) p ≡ cond (x || y) (token 1) bad
+    either true y p e = refl
+    either false y p e = e
+
+holds-at : (p : ℕ → Bool) (ks : List ℕ) (c : ℕ) → list_all p ks ≡ true → list_any (λ k. k == c) ks ≡ true → p c ≡ true
+holds-at p [] c all any = absurd (false≢true any)
+holds-at p (k ∷ ks) c all any =
+    let parts = and_parts (p k) (list_all p ks) all in
+    ⊎_elim (λ same. ap p (sym (eqb-true k c same)) ∙ parts.0) (λ later. holds-at p ks c parts.1 later) (or_cases (k == c) (list_any (λ j. j == c) ks) any)
+
+abbrev is_plain : ℕ → Bool
+is_plain c = nat_lt c 128 && not (is_reserved (one c))
+
+all_plain : list_all is_plain single_symbols ≡ true
+all_plain = refl
+
+by_tests : (cs : List ℕ) → symbol_piece symbols cs ≡ cond (starts_with nat_eq cs (codes "=:=")) (token 3) (cond (starts_with nat_eq cs (codes ":=")) (token 2) (cond (starts_with nat_eq cs (codes "<=")) (token 2) (symbol_piece (map one single_symbols) cs)))
+by_tests cs = refl
+
+module _ (text : List ℕ) (c : ℕ) (utf8 : IsUtf8 text) (begins : BeginsWith text c) (no_name : begins_name c ≡ false) (no_digit : is_digit c ≡ false) where
+  -- what the kind says
+  symbol-kind : (k : ℕ) (ks : List ℕ) → IsAscii (k ∷ ks) → StartsAs (k ∷ ks) text → is_reserved (k ∷ ks) ≡ false → IsOfKind Symbol (take (length (k ∷ ks)) text)
+  symbol-kind k ks ascii starts plain =
+      let tested : starts_with nat_eq (c ∷ drop 1 (chars text)) (k ∷ ks) ≡ true = ap (λ l. starts_with nat_eq l (k ∷ ks)) (sym begins) ∙ starts.chars_start in
+      let same : k ≡ c = eqb-true k c (and_parts _ _ tested).0 in
+      let named : has_name_form (chars (k ∷ ks)) ≡ false = ap has_name_form (chars-IsAscii (k ∷ ks) ascii) ∙ and_left _ _ (ap begins_name same ∙ no_name) in
+      subst (IsOfKind Symbol) (sym starts.front) (plain, and_left _ _ named, ap is_digit same ∙ no_digit)
+
+  symbol-token : (k : ℕ) (ks : List ℕ) → IsAscii (k ∷ ks) → StartsAs (k ∷ ks) text → is_reserved (k ∷ ks) ≡ false → symbol_piece symbols (chars text) ≡ token (length (k ∷ ks)) → IsToken (symbol_piece symbols (chars text)) text Symbol (length (k ∷ ks))
+  symbol-token k ks ascii starts plain is = record {
+    some = omega arith;
+    boundary = starts.boundary;
+    is = is ∙ ap token (sym starts.spelled);
+    of_kind = symbol-kind k ks ascii starts plain;
+  }
