@@ -29,7 +29,7 @@ blank-gap text c utf8 begins blank =
     }
 
 comment-ascii : IsAscii (codes "//")
-comment-ascii = IsAscii-cons 47 _ (omega arith) (IsAscii-cons 47 _ (omega arith) IsAscii-nil)
+comment-ascii = IsAscii-cons 47 (codes "/") (omega arith) (IsAscii-cons 47 [] (omega arith) IsAscii-nil)
 
 -- the second character decides
 comment-is : (cs : List ℕ) → starts_with nat_eq (slash ∷ cs) (codes "//") ≡ true → comment_piece cs ≡ gap (length (take_while stays (slash ∷ cs)))

@@ -1,8 +1,9 @@
 -- Which symbol begins a text.
 use Rattle.std.proofs.Common.{◌≡◌, ℕ, suc, ◌<◌, Bool, true, false, not, cond, ◌&&◌, ◌||◌, List, [], ◌∷◌, length, map, take, drop, IsUtf8, ⊎_elim, refl, sym, ap, ◌∙◌, subst, arith}
-use Rattle.std.specs.Prelude.{codes, nat_eq, nat_lt, ◌==◌}
+use Rattle.std.specs.Prelude.{codes, nat_eq, nat_lt, ◌==◌, None}
 use Rattle.std.specs.List.{list_any, list_all, starts_with}
 use Rattle.std.specs.Str.{chars, IsAscii}
+use Rattle.std.specs.Str.Pattern.{HasPrefixMatch, FindsTextPrefix}
 use Rattle.std.proofs.lemmas.Bool.{false≢true, and_parts, and_left, or_cases, or_parts, eqb-true, eq-eqb, ltb-true, not-true, cond-true, cond-false}
 use Rattle.std.proofs.lemmas.Str.{chars-IsAscii}
 use Rattle.std.proofs.lemmas.Str.Ascii.{IsAscii-cons, IsAscii-nil}
@@ -12,7 +13,7 @@ use Rattle.rel_lexer.specs.declared.Kind.{Kind}
 use Rattle.rel_lexer.specs.declared.Kind.TheVariants.{Symbol}
 use Rattle.rel_lexer.specs.Tokens.{IsOfKind}
 use Rattle.rel_lexer.specs.Pieces.{BeginsWith, IsToken, single_symbols}
-use Rattle.rel_lexer.proofs.Cuts.{StartsAs, FirstByte, first_byte, chars-one}
+use Rattle.rel_lexer.proofs.Cuts.{StartsAs, first_byte, starts-so, starts-not}
 
 and-true : (b : Bool) → (b && true) ≡ b
 and-true true = refl
@@ -63,3 +64,63 @@ module _ (text : List ℕ) (c : ℕ) (utf8 : IsUtf8 text) (begins : BeginsWith t
     is = is ∙ ap token (sym starts.spelled);
     of_kind = symbol-kind k ks ascii starts plain;
   }
+
+  ascii-colon : IsAscii (codes ":=")
+  ascii-colon = IsAscii-cons 58 (codes "=") (omega arith) (IsAscii-cons 61 [] (omega arith) IsAscii-nil)
+
+  ascii-most : IsAscii (codes "<=")
+  ascii-most = IsAscii-cons 60 (codes "=") (omega arith) (IsAscii-cons 61 [] (omega arith) IsAscii-nil)
+
+  ascii-agrees : IsAscii (codes "=:=")
+  ascii-agrees = IsAscii-cons 61 (codes ":=") (omega arith) ascii-colon
+
+  abbrev Lacks : List ℕ → Type 0
+  Lacks word = FindsTextPrefix word text None
+
+  abbrev Has : List ℕ → Type 0
+  Has word = HasPrefixMatch (FindsTextPrefix word) text
+
+  abbrev cs : List ℕ
+  cs = chars text
+
+  pub symbol-agrees : Has (codes "=:=") → IsToken (symbol_piece symbols cs) text Symbol 3
+  symbol-agrees has =
+      let starts = starts-so (codes "=:=") text ascii-agrees utf8 has in
+      symbol-token 61 (codes ":=") ascii-agrees starts refl (by_tests cs ∙ cond-true (starts_with nat_eq cs (codes "=:=")) (token 3) _ starts.chars_start)
+
+  not-agrees : Lacks (codes "=:=") → symbol_piece symbols cs ≡ cond (starts_with nat_eq cs (codes ":=")) (token 2) (cond (starts_with nat_eq cs (codes "<=")) (token 2) (symbol_piece (map one single_symbols) cs))
+  not-agrees lacks = by_tests cs ∙ cond-false (starts_with nat_eq cs (codes "=:=")) (token 3) _ (starts-not (codes "=:=") text ascii-agrees utf8 lacks)
+
+  pub symbol-assigns : Lacks (codes "=:=") → Has (codes ":=") → IsToken (symbol_piece symbols cs) text Symbol 2
+  symbol-assigns lacks has =
+      let starts = starts-so (codes ":=") text ascii-colon utf8 has in
+      symbol-token 58 (codes "=") ascii-colon starts refl (not-agrees lacks ∙ cond-true (starts_with nat_eq cs (codes ":=")) (token 2) _ starts.chars_start)
+
+  not-assigns : Lacks (codes "=:=") → Lacks (codes ":=") → symbol_piece symbols cs ≡ cond (starts_with nat_eq cs (codes "<=")) (token 2) (symbol_piece (map one single_symbols) cs)
+  not-assigns first second = not-agrees first ∙ cond-false (starts_with nat_eq cs (codes ":=")) (token 2) _ (starts-not (codes ":=") text ascii-colon utf8 second)
+
+  pub symbol-at_most : Lacks (codes "=:=") → Lacks (codes ":=") → Has (codes "<=") → IsToken (symbol_piece symbols cs) text Symbol 2
+  symbol-at_most first second has =
+      let starts = starts-so (codes "<=") text ascii-most utf8 has in
+      symbol-token 60 (codes "=") ascii-most starts refl (not-assigns first second ∙ cond-true (starts_with nat_eq cs (codes "<=")) (token 2) _ starts.chars_start)
+
+  by_single : Lacks (codes "=:=") → Lacks (codes ":=") → Lacks (codes "<=") → symbol_piece symbols cs ≡ cond (list_any (λ k. k == c) single_symbols) (token 1) bad
+  by_single first second third =
+      not-assigns first second ∙ cond-false (starts_with nat_eq cs (codes "<=")) (token 2) _ (starts-not (codes "<=") text ascii-most utf8 third)
+      ∙ ap (symbol_piece (map one single_symbols)) begins ∙ single-piece single_symbols c (drop 1 cs)
+
+  pub symbol-single : Lacks (codes "=:=") → Lacks (codes ":=") → Lacks (codes "<=") → list_any (λ k. k == c) single_symbols ≡ true → IsToken (symbol_piece symbols cs) text Symbol 1
+  symbol-single first second third is =
+      let plain = and_parts (nat_lt c 128) (not (is_reserved (one c))) (holds-at is_plain single_symbols c all_plain is) in
+      let ascii : c < 128 = ltb-true c 128 plain.0 in
+      let front = first_byte text c utf8 begins ascii in
+      let starts : StartsAs (one c) text = record {
+        chars_start = ap (λ l. starts_with nat_eq l (one c)) begins ∙ and-true (c == c) ∙ eq-eqb c c refl;
+        front = front.front;
+        spelled = front.one;
+        boundary = front.boundary;
+      } in
+      symbol-token c [] (IsAscii-cons c [] ascii IsAscii-nil) starts (not-true _ plain.1) (by_single first second third ∙ cond-true (list_any (λ k. k == c) single_symbols) (token 1) bad is)
+
+  pub symbol-bad : Lacks (codes "=:=") → Lacks (codes ":=") → Lacks (codes "<=") → list_any (λ k. k == c) single_symbols ≡ false → symbol_piece symbols cs ≡ bad
+  symbol-bad first second third is = by_single first second third ∙ cond-false (list_any (λ k. k == c) single_symbols) (token 1) bad is

@@ -1,14 +1,22 @@
 -- The tokens from a place on, by the piece that stands there.
-use Rattle.std.proofs.Common.{◌≡◌, ℕ, zero, suc, ◌+◌, ◌-◌, ◌<◌, ◌≤◌, Bool, true, false, cond, List, [], ◌∷◌, ◌++◌, length, take, drop, Option, Some, None, IsUtf8, refl, sym, ap, ◌∙◌, subst, append_assoc, length-append, length-take-le, arith}
-use Rattle.std.specs.Prelude.{option_map, encode_utf8, ◌==◌}
+use Rattle.std.proofs.Common.{◌≡◌, ℕ, zero, suc, ◌+◌, ◌-◌, ◌<◌, ◌≤◌, Bool, true, false, cond, List, [], ◌∷◌, ◌++◌, length, take, drop, Option, Some, None, IsUtf8, refl, sym, ap, ◌∙◌, subst, append_assoc, append-nil, length-append, length-drop, length-take-le, arith}
+use Rattle.std.specs.Prelude.{option_map, encode_utf8, ◌==◌, All, Ok}
 use Rattle.std.specs.Str.{chars, encode_utf8_all, IsCharBoundary}
+use Rattle.std.proofs.lemmas.List.{map-append}
+use Rattle.std.proofs.lemmas.List.Elements.{All-push}
 use Rattle.std.proofs.Math.Seq.{take-append_seam, drop-append_seam}
-use Rattle.std.proofs.lemmas.Str.{IsUtf8-take, encodes-chars, chars-nil}
+use Rattle.std.proofs.lemmas.Str.{IsUtf8-take, IsUtf8-drop, encodes-chars, chars-nil}
 use Rattle.std.proofs.lemmas.Bool.{cond-false, ne_eqb}
-use Rattle.rel_lang.specs.Tokens.{Token, Piece, piece_at, with_piece, tokens_from}
+use Rattle.rel_lang.specs.Tokens.{Token, Piece, piece_at, with_piece, tokens_from, tokens}
 use Rattle.rel_lang.specs.Tokens.Piece.{gap, token, bad}
 use Rattle.rel_lexer.specs.declared.Kind.{Kind}
-use Rattle.rel_lexer.specs.Pieces.{chars_in, IsGap, IsToken}
+use Rattle.rel_lexer.specs.declared.Token.{Token as Lexed}
+use Rattle.rel_lexer.specs.declared.parts.Part.{Part}
+use Rattle.rel_lexer.specs.declared.parts.Part.TheVariants.{Gap, Token as TokenPart}
+use Rattle.rel_lexer.specs.declared.LexFault.{LexFault}
+use Rattle.rel_lexer.specs.declared.LexFault.TheVariants.{BadChar, WideLiteral, Memory}
+use Rattle.rel_lexer.specs.Tokens.{token_of, tokens_of, HasKind, IsOfKind, MeansNoTokens}
+use Rattle.rel_lexer.specs.Pieces.{chars_in, IsGap, IsToken, IsPart, part_len}
 use Rattle.rel_lexer.proofs.Cuts.{chars-cut}
 
 abbrev bytes : List ℕ → ℕ
@@ -117,3 +125,72 @@ module _ (text : List ℕ) (at : ℕ) (utf8 : IsUtf8 text) where
 
   pub behind-end : length text ≡ 0 → tokens_from 0 at (chars text) ≡ Some []
   behind-end none = ap (λ l. tokens_from 0 at (chars l)) (length-zero text none) ∙ ap (tokens_from 0 at) chars-nil ∙ nothing 0 at
+
+-- ---- the loop
+
+-- the tokens so far, and behind them those of the rest, are the text's
+abbrev pub SoFar : List ℕ → List Lexed → List ℕ → ℕ → Type 0
+SoFar text ts rest at = tokens text ≡ option_map (λ l. tokens_of ts ++ l) (tokens_from 0 at (chars rest))
+
+join : (ts : List Lexed) (t : Lexed) (more : Option (List Token)) → option_map (λ l. tokens_of ts ++ l) (onto (token_of t) more) ≡ option_map (λ l. tokens_of (ts ++ (t ∷ [])) ++ l) more
+join ts t None = refl
+join ts t (Some l) = ap Some (sym (append_assoc (tokens_of ts) (token_of t ∷ []) l) ∙ ap (λ k. k ++ l) (sym (map-append token_of ts (t ∷ []))))
+
+module _ (text : List ℕ) (ts : List Lexed) (rest : List ℕ) (at : ℕ) (utf8 : IsUtf8 rest) (before : SoFar text ts rest at) where
+  pub refused : 0 < length rest → piece_at (chars rest) ≡ bad → tokens text ≡ None
+  refused some is = before ∙ ap (option_map (λ l. tokens_of ts ++ l)) (behind-bad rest at utf8 some is)
+
+  pub finished : length rest ≡ 0 → tokens text ≡ Some (tokens_of ts)
+  finished none = before ∙ ap (option_map (λ l. tokens_of ts ++ l)) (behind-end rest at utf8 none) ∙ ap Some (append-nil (tokens_of ts))
+
+  pub kept-gap : (n : ℕ) → IsGap (piece_at (chars rest)) rest n → SoFar text ts (drop n rest) (at + n)
+  kept-gap n g = before ∙ ap (option_map (λ l. tokens_of ts ++ l)) (behind-gap rest at utf8 n g)
+
+  pub kept-token : (kind : Kind) (n : ℕ) (t : Lexed) → IsToken (piece_at (chars rest)) rest kind n → t.text.now ≡ take n rest → t.at ≡ at → SoFar text (ts ++ (t ∷ [])) (drop n rest) (at + n)
+  kept-token kind n t is text_is at_is =
+      let same : record { text = take n rest; at = at } ≡ token_of t = (λ i. record { text = sym text_is i; at = sym at_is i }) in
+      before ∙ ap (option_map (λ l. tokens_of ts ++ l)) (behind-token rest at utf8 kind n is ∙ ap (λ x. onto x (tokens_from 0 (at + n) (chars (drop n rest)))) same)
+      ∙ join ts t (tokens_from 0 (at + n) (chars (drop n rest)))
+
+-- the loop's invariant: ts are the tokens of the front of the text, and the rest begins at the byte `at`
+pub record Walked (text : List ℕ) (ts : List Lexed) (rest : List ℕ) (at : ℕ) : Type 0 where
+  pub utf8 : IsUtf8 rest
+  pub place : at + length rest ≡ length text
+  pub so_far : SoFar text ts rest at
+  pub kinds : All HasKind ts
+
+-- what a cut leaves
+module _ (text : List ℕ) (rest : List ℕ) (at n : ℕ) (boundary : IsCharBoundary rest n) (after : List ℕ) (after_is : after ≡ drop n rest) (place : at + length rest ≡ length text) where
+  placed : at + n + length after ≡ length text
+  placed = omega (arith, ap length after_is, length-drop n rest, boundary.0)
+
+  moved : (ts : List Lexed) → SoFar text ts (drop n rest) (at + n) → SoFar text ts after (at + n)
+  moved ts h = subst (λ l. SoFar text ts l (at + n)) (sym after_is) h
+
+module _ (text : List ℕ) (ts : List Lexed) (rest : List ℕ) (at : ℕ) (before : Walked text ts rest at) where
+  walked-gap : (n : ℕ) → IsGap (piece_at (chars rest)) rest n → (after : List ℕ) → after ≡ drop n rest → Walked text ts after (at + n)
+  walked-gap n g after after_is = record {
+    utf8 = subst IsUtf8 (sym after_is) (IsUtf8-drop rest n before.utf8 g.boundary);
+    place = placed text rest at n g.boundary after after_is before.place;
+    so_far = moved text rest at n g.boundary after after_is before.place ts (kept-gap text ts rest at before.utf8 before.so_far n g);
+    kinds = before.kinds;
+  }
+
+  -- past a part that is no token
+  pub walked-past : (part : Part) → IsPart (piece_at (chars rest)) rest (Ok part) → ((kind : Kind) (n : ℕ) → part ≡ TokenPart kind n → ⊥) → (after : List ℕ) → after ≡ drop (part_len part) rest → Walked text ts after (at + part_len part)
+  walked-past (Gap n) is other after after_is = walked-gap n is after after_is
+  walked-past (TokenPart kind n) is other after after_is = absurd (other kind n refl)
+
+  pub walked-token : (kind : Kind) (n : ℕ) (t : Lexed) → IsToken (piece_at (chars rest)) rest kind n → t.kind ≡ kind → t.text.now ≡ take n rest → t.at ≡ at → (after : List ℕ) → after ≡ drop n rest → Walked text (ts ++ (t ∷ [])) after (at + n)
+  walked-token kind n t is kind_is text_is at_is after after_is = record {
+    utf8 = subst IsUtf8 (sym after_is) (IsUtf8-drop rest n before.utf8 is.boundary);
+    place = placed text rest at n is.boundary after after_is before.place;
+    so_far = moved text rest at n is.boundary after after_is before.place (ts ++ (t ∷ [])) (kept-token text ts rest at before.utf8 before.so_far kind n t is text_is at_is);
+    kinds = All-push HasKind ts t before.kinds (subst (λ k. IsOfKind k t.text.now) (sym kind_is) (subst (IsOfKind kind) (sym text_is) is.of_kind));
+  }
+
+-- whatever the fault
+pub no_tokens : (e : LexFault) (text : List ℕ) → tokens text ≡ None → MeansNoTokens e text
+no_tokens (BadChar at) text none = none
+no_tokens (WideLiteral at) text none = none
+no_tokens Memory text none = tt
