@@ -1,17 +1,17 @@
 -- A blank, and a comment.
-use Rattle.std.proofs.Common.{◌≡◌, ℕ, zero, suc, ◌+◌, ◌<◌, Bool, true, false, not, cond, ◌&&◌, List, [], ◌∷◌, length, take, drop, IsUtf8, ⊎_elim, refl, sym, ap, ◌∙◌, subst, arith}
+use Rattle.std.proofs.Common.{◌≡◌, ℕ, suc, ◌+◌, ◌<◌, Bool, true, false, not, List, [], ◌∷◌, length, drop, IsUtf8, ⊎_elim, refl, sym, ap, ◌∙◌, arith}
 use Rattle.std.specs.Prelude.{codes, nat_eq, take_while, ◌==◌, None}
 use Rattle.std.specs.List.{starts_with}
 use Rattle.std.specs.Str.{chars, IsAscii}
 use Rattle.std.specs.Str.Pattern.{HasPrefixMatch, FindsTextPrefix}
-use Rattle.std.proofs.lemmas.Bool.{false≢true, or_cases, and_parts, eqb-true, eq-eqb, cond-true, cond-false, cases_Bool}
+use Rattle.std.proofs.lemmas.Bool.{false≢true, and_parts, eqb-true, eq-eqb, cond-true, cond-false, cases_Bool}
 use Rattle.std.proofs.lemmas.Bool.Decides.{nat_tests}
 use Rattle.std.proofs.lemmas.List.Sums.{take_while-cons}
 use Rattle.std.proofs.lemmas.Str.Ascii.{IsAscii-cons, IsAscii-nil}
-use Rattle.rel_lang.specs.Tokens.{Piece, piece_at, is_blank, is_line_feed, slash, comment_piece, run_len}
+use Rattle.rel_lang.specs.Tokens.{piece_at, is_blank, is_line_feed, slash, comment_piece, run_len}
 use Rattle.rel_lang.specs.Tokens.Piece.{gap, bad}
 use Rattle.rel_lexer.specs.Pieces.{BeginsWith, IsRun, IsGap, chars_in}
-use Rattle.rel_lexer.proofs.Cuts.{StartsAs, first_byte, starts-so, starts-not, some-from_chars}
+use Rattle.rel_lexer.proofs.Cuts.{first_byte, starts-so, starts-not, some-from_chars}
 
 abbrev stays : ℕ → Bool
 stays c = not (is_line_feed c)

@@ -1,5 +1,5 @@
 -- A text cut between two characters, and the characters that a search passes.
-use Rattle.std.proofs.Common.{◌≡◌, ℕ, zero, suc, ◌+◌, ◌-◌, ◌<◌, ◌≤◌, Bool, true, false, not, cond, List, [], ◌∷◌, ◌++◌, length, get_or, take, drop, Option, Some, None, MatchOption, IsUtf8, refl, sym, ap, ◌∙◌, subst, arith, rules, take-append-drop}
+use Rattle.std.proofs.Common.{◌≡◌, ℕ, zero, suc, ◌<◌, Bool, true, false, not, cond, List, [], ◌∷◌, ◌++◌, length, get_or, take, drop, Option, Some, None, MatchOption, IsUtf8, refl, sym, ap, ◌∙◌, subst, arith, take-append-drop}
 use Rattle.std.specs.Prelude.{take_while}
 use Rattle.std.specs.Option.{unwrap_or}
 use Rattle.std.specs.Str.{chars, IsCharBoundary, NonePass}
@@ -126,9 +126,9 @@ module _ (prefix text : List ℕ) (ascii : IsAscii prefix) (utf8 : IsUtf8 text) 
   pub starts-not : FindsTextPrefix prefix text None → starts_with nat_eq (chars text) prefix ≡ false
   starts-not lacks =
       false_from_ne_true (starts_with nat_eq (chars text) prefix) (λ starts.
-          let front : prefix ≡ take (length prefix) (chars text) = (bytes_eq-Decides prefix (take (length prefix) (chars text))).0 starts in
-          let after = drop (length prefix) (chars text) in
-          lacks (encode_utf8_all after) (sym (encodes-chars text utf8) ∙ ap encode_utf8_all (sym (take-append-drop (length prefix) (chars text)) ∙ ap (λ l. l ++ after) (sym front)) ∙ encodes-append prefix after ∙ ap (λ l. l ++ encode_utf8_all after) (encodes-IsAscii prefix ascii)))
+      let front : prefix ≡ take (length prefix) (chars text) = (bytes_eq-Decides prefix (take (length prefix) (chars text))).0 starts in
+      let after = drop (length prefix) (chars text) in
+      lacks (encode_utf8_all after) (sym (encodes-chars text utf8) ∙ ap encode_utf8_all (sym (take-append-drop (length prefix) (chars text)) ∙ ap (λ l. l ++ after) (sym front)) ∙ encodes-append prefix after ∙ ap (λ l. l ++ encode_utf8_all after) (encodes-IsAscii prefix ascii)))
 
 -- ---- the characters that pass
 

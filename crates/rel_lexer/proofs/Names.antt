@@ -1,13 +1,12 @@
 -- A name, reserved or not.
-use Rattle.std.proofs.Common.{◌≡◌, ℕ, zero, suc, ◌+◌, ◌<◌, Bool, true, false, not, cond, ◌&&◌, List, [], ◌∷◌, length, take, drop, IsUtf8, ⊎_elim, refl, sym, ap, ◌∙◌, subst, arith}
+use Rattle.std.proofs.Common.{◌≡◌, ℕ, ◌+◌, true, false, not, cond, List, [], ◌∷◌, length, take, drop, ⊎_elim, ap, ◌∙◌, arith}
 use Rattle.std.specs.Prelude.{take_while, ◌==◌}
 use Rattle.std.specs.List.{list_all}
 use Rattle.std.specs.Str.{chars}
 use Rattle.std.proofs.lemmas.Bool.{or_cases, and_from, eqb-true}
 use Rattle.std.proofs.lemmas.List.Sums.{take_while-cons}
-use Rattle.unicode_ident.specs.Ident.{is_xid_continue}
 use Rattle.unicode_ident.proofs.IdentLemmas.{is_xid_continue-ascii, is_xid_start-is_xid_continue}
-use Rattle.rel_lang.specs.Tokens.{Piece, begins_name, continues_name, run_len, has_name_form, is_reserved, is_name}
+use Rattle.rel_lang.specs.Tokens.{begins_name, continues_name, run_len, has_name_form, is_reserved}
 use Rattle.rel_lang.specs.Tokens.Piece.{token}
 use Rattle.rel_lexer.specs.declared.Kind.{Kind}
 use Rattle.rel_lexer.specs.declared.Kind.TheVariants.{Word, Name}

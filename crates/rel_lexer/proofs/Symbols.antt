@@ -1,15 +1,14 @@
 -- Which symbol begins a text.
-use Rattle.std.proofs.Common.{◌≡◌, ℕ, suc, ◌<◌, Bool, true, false, not, cond, ◌&&◌, ◌||◌, List, [], ◌∷◌, length, map, take, drop, IsUtf8, ⊎_elim, refl, sym, ap, ◌∙◌, subst, arith}
+use Rattle.std.proofs.Common.{◌≡◌, ℕ, ◌<◌, Bool, true, false, not, cond, ◌&&◌, ◌||◌, List, [], ◌∷◌, length, map, take, drop, IsUtf8, ⊎_elim, refl, sym, ap, ◌∙◌, subst, arith}
 use Rattle.std.specs.Prelude.{codes, nat_eq, nat_lt, ◌==◌, None}
 use Rattle.std.specs.List.{list_any, list_all, starts_with}
 use Rattle.std.specs.Str.{chars, IsAscii}
 use Rattle.std.specs.Str.Pattern.{HasPrefixMatch, FindsTextPrefix}
-use Rattle.std.proofs.lemmas.Bool.{false≢true, and_parts, and_left, or_cases, or_parts, eqb-true, eq-eqb, ltb-true, not-true, cond-true, cond-false}
+use Rattle.std.proofs.lemmas.Bool.{false≢true, and_parts, and_left, or_cases, eqb-true, eq-eqb, ltb-true, not-true, cond-true, cond-false}
 use Rattle.std.proofs.lemmas.Str.{chars-IsAscii}
 use Rattle.std.proofs.lemmas.Str.Ascii.{IsAscii-cons, IsAscii-nil}
-use Rattle.rel_lang.specs.Tokens.{Piece, symbol_piece, symbols, begins_name, is_digit, is_reserved, is_name, has_name_form}
+use Rattle.rel_lang.specs.Tokens.{Piece, symbol_piece, symbols, begins_name, is_digit, is_reserved, has_name_form}
 use Rattle.rel_lang.specs.Tokens.Piece.{token, bad}
-use Rattle.rel_lexer.specs.declared.Kind.{Kind}
 use Rattle.rel_lexer.specs.declared.Kind.TheVariants.{Symbol}
 use Rattle.rel_lexer.specs.Tokens.{IsOfKind}
 use Rattle.rel_lexer.specs.Pieces.{BeginsWith, IsToken, single_symbols}

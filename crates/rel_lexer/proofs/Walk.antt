@@ -1,5 +1,5 @@
 -- The tokens from a place on, by the piece that stands there.
-use Rattle.std.proofs.Common.{◌≡◌, ℕ, zero, suc, ◌+◌, ◌-◌, ◌<◌, ◌≤◌, Bool, true, false, cond, List, [], ◌∷◌, ◌++◌, length, take, drop, Option, Some, None, IsUtf8, refl, sym, ap, ◌∙◌, subst, append_assoc, append-nil, length-append, length-drop, length-take-le, arith}
+use Rattle.std.proofs.Common.{◌≡◌, ℕ, zero, suc, ◌+◌, ◌-◌, ◌<◌, cond, List, [], ◌∷◌, ◌++◌, length, take, drop, Option, Some, None, IsUtf8, refl, sym, ap, ◌∙◌, subst, append_assoc, append-nil, length-append, length-drop, length-take-le, arith}
 use Rattle.std.specs.Prelude.{option_map, encode_utf8, ◌==◌, All, Ok}
 use Rattle.std.specs.Str.{chars, encode_utf8_all, IsCharBoundary}
 use Rattle.std.proofs.lemmas.List.{map-append}

@@ -1,5 +1,5 @@
 -- The code's tokens as the language's definition sees them, and what their kinds say.
-use Rattle.std.specs.Prelude.{◌≡◌, ℕ, ◌^◌, ◌<◌, Bool, true, false, List, [], ◌∷◌, map, All, None, ℤ, pos, negsuc}
+use Rattle.std.specs.Prelude.{◌≡◌, ℕ, ◌^◌, ◌<◌, true, false, List, map, None, ℤ, pos, negsuc}
 use Rattle.std.specs.Fmt.{decimal}
 use Rattle.rel_lang.specs.Tokens.{Token as Piece, tokens, is_reserved, is_name, is_number}
 use Rattle.rel_lexer.specs.declared.Kind.{Kind}

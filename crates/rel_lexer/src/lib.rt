@@ -6,6 +6,9 @@ ghost use Rattle.rel_lang.specs.Tokens.{tokens};
 ghost use Rattle.rel_lexer.specs.Tokens.{tokens_of, HasKind, MeansNoTokens};
 
 mod parts;
+mod reserved;
+#[cfg(test)]
+mod tests;
 
 use parts::{Part, next_part};
 use std::alloc::Global;
@@ -53,7 +56,11 @@ pub fn lex<'a>(alloc: Global, text: &'a str) -> Result<Vec<Token<'a>>, LexFault>
         };
         let (front, after) = rest.split_at(part.len());
         if let Part::Token(kind, _) = part {
-            let token = Token { kind, text: front, at };
+            let token = Token {
+                kind,
+                text: front,
+                at,
+            };
             if tokens.push(token).is_err() {
                 return Err(LexFault::Memory);
             }

@@ -3,14 +3,16 @@
 ghost use Rattle.std.specs.Prelude.{◌≡◌, ◌^◌, ◌<◌, ◌+◌, ◌==◌, not, length, drop, IsTrue, IsFalse, Ok};
 ghost use Rattle.std.specs.List.{list_any};
 ghost use Rattle.std.specs.Str.{chars};
-ghost use Rattle.rel_lang.specs.Tokens.{is_blank, is_digit, is_line_feed, begins_name, continues_name, run_len, is_reserved, slash, comment_piece, number_piece, symbol_piece, symbols, piece_at};
+ghost use Rattle.rel_lang.specs.Tokens.{is_blank, is_digit, is_line_feed, begins_name, continues_name, slash};
+ghost use Rattle.rel_lang.specs.Tokens.{run_len, comment_piece, number_piece, symbol_piece, symbols, piece_at};
 ghost use Rattle.rel_lang.specs.Tokens.Piece.{token};
 ghost use Rattle.rel_lexer.specs.Pieces.{BeginsWith, IsRun, IsPart, part_len, single_symbols};
 
+use crate::reserved::is_reserved;
 use crate::{Kind, LexFault};
 use unicode_ident::{is_xid_continue, is_xid_start};
 
-/// With how many bytes it takes.
+/// A part of a text, with the number of its bytes.
 #[derive(Clone, Copy, Drop)]
 pub enum Part {
     Gap(usize),
@@ -28,6 +30,7 @@ impl Part {
     }
 }
 
+/// Space, tab, carriage return and line feed only separate.
 fn is_blank(ch: char) -> bool
     ensures { result ≡ is_blank ch }
 {
@@ -51,14 +54,16 @@ fn line_len(rest: &str) -> usize
 fn name_len(rest: &str) -> usize
     ensures { IsRun continues_name rest.now result }
 {
-    rest.find(|c: char| !is_xid_continue(c)).unwrap_or(rest.len())
+    rest.find(|c: char| !is_xid_continue(c))
+        .unwrap_or(rest.len())
 }
 
 /// How many digits come first.
 fn digits_len(rest: &str) -> usize
     ensures { IsRun is_digit rest.now result }
 {
-    rest.find(|c: char| !c.is_ascii_digit()).unwrap_or(rest.len())
+    rest.find(|c: char| !c.is_ascii_digit())
+        .unwrap_or(rest.len())
 }
 
 fn first_char(rest: &str) -> char
@@ -83,21 +88,7 @@ fn comment(rest: &str, at: u32) -> Result<Part, LexFault>
     }
 }
 
-const RESERVED: [&str; 62] = [
-    "agree", "align", "all", "alloc", "and", "at", "bi", "both", "boundary", "call", "class", "client",
-    "coupling", "drop", "else", "empty", "ensures", "eventually", "false", "global", "if", "implies",
-    "in", "init", "interface", "int", "inv", "invariant", "judge", "left", "link", "meet", "method",
-    "minus", "module", "new", "not", "note", "null", "of", "old", "or", "pair", "proc", "rel",
-    "requires", "rgn", "right", "seq", "skip", "some", "split", "sub", "sync", "true", "union", "unit",
-    "using", "var", "weave", "while", "writes",
-];
-
-fn is_reserved(text: &str) -> bool
-    ensures { result ≡ is_reserved text.now }
-{
-    RESERVED.iter().any(|word| text == *word)
-}
-
+/// A name begins with `first` and goes on as far as it can.
 fn name(rest: &str, first: char) -> Part
     requires begins { BeginsWith rest.now first }
     requires passes { IsTrue (begins_name first) }
@@ -105,11 +96,15 @@ fn name(rest: &str, first: char) -> Part
 {
     let len = name_len(rest);
     let (text, _) = rest.split_at(len);
-    let kind = if is_reserved(text) { Kind::Word } else { Kind::Name };
+    let kind = if is_reserved(text) {
+        Kind::Word
+    } else {
+        Kind::Name
+    };
     Part::Token(kind, len)
 }
 
-/// A number, before which no zero stands.
+/// A number has no zero before it. It is 0, or begins with another digit.
 fn number(rest: &str, first: char, at: u32) -> Result<Part, LexFault>
     requires begins { BeginsWith rest.now first }
     requires passes { IsTrue (is_digit first) }
@@ -132,8 +127,23 @@ fn is_symbol(ch: char) -> bool
 {
     matches!(
         ch,
-        '(' | ')' | '[' | ']' | '{' | '}' | ';' | ':' | ',' | '.' | '~' | '|' | '+' | '-' | '*' | '='
-            | '<' | '@'
+        '(' | ')'
+            | '['
+            | ']'
+            | '{'
+            | '}'
+            | ';'
+            | ':'
+            | ','
+            | '.'
+            | '~'
+            | '|'
+            | '+'
+            | '-'
+            | '*'
+            | '='
+            | '<'
+            | '@'
     )
 }
 

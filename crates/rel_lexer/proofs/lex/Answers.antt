@@ -1,4 +1,5 @@
-use Rattle.std.proofs.Common.{◌≡◌, ◌<◌, ◌+◌, length, is_ok, not, take, drop, sym, ap, ◌∙◌, subst, arith}
+-- Each part of the text adds its token, and a place where nothing begins leaves the text without tokens.
+use Rattle.std.proofs.Common.{◌≡◌, ◌+◌, length, not, take, drop, sym, ap, ◌∙◌, subst, arith}
 use Rattle.std.specs.Prelude.{Ok, [], ◌∷◌, ◌++◌, refl}
 use Rattle.std.specs.Str.{chars}
 use Rattle.rel_lang.specs.Tokens.{piece_at}
@@ -32,7 +33,7 @@ loop-rest-preserved c =
     let front_len : length c.split_at.result.0.now ≡ part_len c.in-Ok.part = parts.front_len ∙ c.len.ensures in
     let after_is : after ≡ drop (part_len c.in-Ok.part) rest = parts.back ∙ ap (λ n. drop n rest) c.len.ensures in
     elim c.match-part.branch [
-      in-Token+else-is_err w ↦
+      | in-Token+else-is_err w ↦
           (let kind = w.in-Token.kind in
           let n = w.in-Token.field-1 in
           let len : part_len c.in-Ok.part ≡ n = ap part_len w.in-Token.is in
@@ -43,7 +44,7 @@ loop-rest-preserved c =
           subst (λ v. Walked text v.items after (loop.at + length c.split_at.result.0.now)) (sym w.tokens-is)
           (subst (λ l. Walked text l after (loop.at + length c.split_at.result.0.now)) (sym pushed)
           (subst (λ k. Walked text (loop.tokens.items ++ (t ∷ [])) after (loop.at + k)) (sym (front_len ∙ len)) walked)))
-    | in_default w ↦
+      | in_default w ↦
           subst (λ v. Walked text v.items after (loop.at + length c.split_at.result.0.now)) (sym w.tokens-is)
           (subst (λ k. Walked text loop.tokens.items after (loop.at + k)) (sym front_len) (walked-past text loop.tokens.items rest loop.at loop.invariant c.in-Ok.part c.in-Ok.ensures w.in_default.not-Token after after_is))
     ]

@@ -1,3 +1,4 @@
+-- What the loop keeps.
 use Rattle.std.proofs.Common.{length}
 use Rattle.rel_lexer.proofs.Walk.{Walked}
 use Rattle.rel_lexer.proofs.lex.Given as goal

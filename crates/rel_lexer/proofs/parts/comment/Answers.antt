@@ -1,3 +1,4 @@
+-- The second character decides whether a comment begins.
 use Rattle.rel_lexer.proofs.Comments.{comment-gap, comment-bad}
 use Rattle.rel_lexer.proofs.parts.comment.Goals as goal
 

@@ -1,4 +1,5 @@
-use Rattle.std.proofs.Common.{◌≡◌, ℕ, Bool, not, refl, rules}
+-- The search ends at the first character that is no digit.
+use Rattle.std.proofs.Common.{not, rules}
 use Rattle.rel_lang.specs.Tokens.{is_digit}
 use Rattle.std.proofs.lemmas.Fn.{always_returns_same}
 use Rattle.rel_lexer.proofs.Cuts.{run-searched, not-not}

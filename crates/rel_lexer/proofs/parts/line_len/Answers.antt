@@ -1,4 +1,5 @@
-use Rattle.std.proofs.Common.{◌≡◌, ℕ, Bool, not, refl, rules}
+-- The search ends at the line feed.
+use Rattle.std.proofs.Common.{not, refl, rules}
 use Rattle.rel_lang.specs.Tokens.{is_line_feed}
 use Rattle.std.proofs.lemmas.Fn.{always_returns_same}
 use Rattle.rel_lexer.proofs.Cuts.{run-searched}

@@ -1,3 +1,4 @@
+-- The kind of a name is that of its text.
 use Rattle.std.proofs.Common.{sym, ap, ◌∙◌}
 use Rattle.rel_lang.specs.Tokens.{is_reserved}
 use Rattle.rel_lexer.proofs.Names.{reserved-token, other-token}

@@ -1,4 +1,5 @@
-use Rattle.std.proofs.Common.{◌≡◌, ℕ, Bool, not, refl, rules}
+-- The search ends at the first character that goes on with no name.
+use Rattle.std.proofs.Common.{not, rules}
 use Rattle.rel_lang.specs.Tokens.{continues_name}
 use Rattle.std.proofs.lemmas.Fn.{always_returns_same}
 use Rattle.rel_lexer.proofs.Cuts.{run-searched, not-not}

@@ -1,3 +1,4 @@
+-- A blank stands for itself.
 use Rattle.std.proofs.Common.{sym, ◌∙◌}
 use Rattle.rel_lexer.proofs.Comments.{blank-gap}
 use Rattle.rel_lexer.proofs.parts.next_part.Goals as goal

@@ -1,4 +1,5 @@
-use Rattle.std.proofs.Common.{◌≡◌, ◌<◌, length, sym, ap, ◌∙◌, subst, arith}
+-- What the run of digits is, by what the parser of integers answers.
+use Rattle.std.proofs.Common.{◌≡◌, sym, subst, arith}
 use Rattle.rel_lexer.proofs.Numbers.{number-zero, number-wide, number-token, some}
 use mir.Syntax.{w128}
 use Rattle.std.specs.Prelude.{Ok, Err}

@@ -1,5 +1,6 @@
-use Rattle.std.proofs.Common.{sym, ap, ◌∙◌}
-use Rattle.rel_lexer.proofs.Symbols.{symbol-agrees, symbol-assigns, symbol-at_most, symbol-single, symbol-bad}
+-- Each test is one of the list of symbols.
+use Rattle.std.proofs.Common.{sym, ◌∙◌}
+use Rattle.rel_lexer.proofs.Symbols.{symbol-agrees, symbol-assigns, symbol-at_most, symbol-single}
 use Rattle.rel_lexer.proofs.parts.symbol.Goals as goal
 
 pub returns-then-starts_with : goal.returns-then-starts_with

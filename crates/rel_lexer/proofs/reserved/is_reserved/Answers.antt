@@ -1,10 +1,9 @@
-use Rattle.std.proofs.Common.{◌≡◌, ℕ, Bool, List, true, false, rules}
-use Rattle.std.specs.List.{list_any}
+-- The table of the code is that of the definition.
+use Rattle.std.proofs.Common.{rules}
 use Rattle.std.specs.Str.{bytes_eq}
 use Rattle.std.proofs.lemmas.Iterator.{YieldsList-from_slice}
 use Rattle.std.proofs.lemmas.Iterator.Search.{any_from_yields_List}
-use Rattle.rel_lang.specs.Tokens.{is_reserved, reserved}
-use Rattle.rel_lexer.proofs.parts.is_reserved.Goals as goal
+use Rattle.rel_lexer.proofs.reserved.is_reserved.Goals as goal
 
 pub returns : goal.returns
 returns c =
