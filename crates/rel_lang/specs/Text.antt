@@ -1,5 +1,5 @@
 -- Which text stands for a bundle: its tokens are those that the grammar gives the bundle, and each tree's `at` is the byte where its tokens begin.
-use Rattle.std.specs.Prelude.{◌≡◌, ℕ, ℤ, pos, negsuc, ◌<◌, ◌^◌, Bool, true, false, IsTrue, List, [], ◌∷◌, ◌++◌, Some, codes}
+use Rattle.std.specs.Prelude.{◌≡◌, ℕ, ℤ, pos, negsuc, ◌<◌, IsTrue, List, [], ◌∷◌, ◌++◌, Some, codes}
 use Rattle.std.specs.Str.{IsUtf8}
 use Rattle.std.specs.Fmt.{signed_decimal}
 use Rattle.rel_lang.specs.Syntax.{Word, Type', int, Exp, var, num, add, sub, Frm, top, Rel, agree, Cmd, command, Form, assign, Block, done, then, BiCmd, bicommand, BiForm, split, BiBlock, bidone, bithen, Align, given, Decl, Effect, global, Clause, RelClause, Spec, Body, Proc, UnitItem, Judgement, Item, unit, judge, Bundle}

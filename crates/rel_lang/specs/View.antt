@@ -1,5 +1,5 @@
 -- The trees that the code's values stand for.
-use Rattle.std.specs.Prelude.{ℕ, List, [], ◌∷◌, map}
+use Rattle.std.specs.Prelude.{List, [], ◌∷◌, map}
 use Rattle.rel_lang.specs.declared.expr.Ty.{Ty}
 use Rattle.rel_lang.specs.declared.expr.Ty.TheVariants as T
 use Rattle.rel_lang.specs.declared.expr.Expr.{Expr, fold-Expr}
