@@ -1,10 +1,10 @@
 -- The projections of a biprogram: what it runs on the left, and what on the right.
-use Rattle.rel_lang.specs.Syntax.{Block, done, then, BiCmd, bicommand, BiForm, split, BiBlock, bidone, bithen}
+use Rattle.rel_lang.specs.Syntax.{Block, done, seq, BiCmd, bicommand, BiForm, split, BiBlock, bidone, biseq}
 
 -- one block after the other
 abbrev pub joined : Block → Block → Block
 joined done ds = ds
-joined (then c cs) ds = then c (joined cs ds)
+joined (seq c cs) ds = seq c (joined cs ds)
 
 abbrev mutual
   pub left_of_form : BiForm → Block
@@ -15,7 +15,7 @@ abbrev mutual
 
   pub left_of : BiBlock → Block
   left_of bidone = done
-  left_of (bithen c cs) = joined (left_of_command c) (left_of cs)
+  left_of (biseq c cs) = joined (left_of_command c) (left_of cs)
 
 abbrev mutual
   pub right_of_form : BiForm → Block
@@ -26,4 +26,4 @@ abbrev mutual
 
   pub right_of : BiBlock → Block
   right_of bidone = done
-  right_of (bithen c cs) = joined (right_of_command c) (right_of cs)
+  right_of (biseq c cs) = joined (right_of_command c) (right_of cs)

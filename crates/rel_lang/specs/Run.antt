@@ -1,7 +1,7 @@
 -- Programs, and the bounded run of a procedure's body.
 use Rattle.std.specs.Prelude.{ℕ, zero, suc, Bool, true, false, List, [], ◌∷◌, ◌++◌, map, codes}
 use Rattle.rel_list.specs.References.{Ref}
-use Rattle.rel_lang.specs.Syntax.{Word, Type', Cmd, command, Form, assign, Block, done, then, Decl, Proc, UnitItem}
+use Rattle.rel_lang.specs.Syntax.{Word, Type', Cmd, command, Form, assign, Block, done, seq, Decl, Proc, UnitItem}
 use Rattle.rel_lang.specs.State.{State, Owner, item, call, Variable, Scope, find_variable, write_variable, with_defaults}
 use Rattle.rel_lang.specs.Value.{value_of}
 
@@ -71,7 +71,7 @@ module _ (p : Program) (again : Scope → Block → State → Picks → Outcome)
 
     pub steps : Scope → Block → State → Picks → Outcome
     steps sc done s k = finished s k
-    steps sc (then c cs) s k = and_then (step_command sc c s k) (steps sc cs)
+    steps sc (seq c cs) s k = and_then (step_command sc c s k) (steps sc cs)
 
 abbrev pub run_of : Program → ℕ → Scope → Block → State → Picks → Outcome
 run_of p zero = steps p (λ sc b s k. out)

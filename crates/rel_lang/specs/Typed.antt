@@ -1,7 +1,7 @@
 -- When a bundle is typed: each name is declared once and before nothing else of its kind, what is named is declared, and every part has the type it needs.
 use Rattle.std.specs.Prelude.{◌≡◌, ◌⊎◌, IsTrue, IsSome, IsSomeAnd, List, [], ◌∷◌, map}
 use Rattle.std.specs.List.{AllByRecursion}
-use Rattle.rel_lang.specs.Syntax.{Word, Type', int, Exp, var, num, add, sub, Rel, agree, Cmd, command, Form, assign, Block, done, then, BiCmd, bicommand, BiForm, split, BiBlock, bidone, bithen, Align, given, Effect, global, Proc, UnitItem, Judgement, Item, unit, judge, Bundle}
+use Rattle.rel_lang.specs.Syntax.{Word, Type', int, Exp, var, num, add, sub, Rel, agree, Cmd, command, Form, assign, Block, done, seq, BiCmd, bicommand, BiForm, split, BiBlock, bidone, biseq, Align, given, Effect, global, Proc, UnitItem, Judgement, Item, unit, judge, Bundle}
 use Rattle.rel_lang.specs.State.{Scope, find_variable}
 use Rattle.rel_lang.specs.Run.{Program, program_of, pre_scope, post_scope, body_scope, result_name}
 use Rattle.rel_lang.specs.Judgement.{Subject, subject_of}
@@ -34,7 +34,7 @@ abbrev mutual
 
   pub IsTypedBlock : Scope → Block → Type 0
   IsTypedBlock sc done = Unit {0}
-  IsTypedBlock sc (then c cs) = IsTypedCommand sc c × IsTypedBlock sc cs
+  IsTypedBlock sc (seq c cs) = IsTypedCommand sc c × IsTypedBlock sc cs
 
 abbrev mutual
   pub IsTypedBiform : Scope → Scope → BiForm → Type 0
@@ -45,7 +45,7 @@ abbrev mutual
 
   pub IsTypedBiblock : Scope → Scope → BiBlock → Type 0
   IsTypedBiblock left right bidone = Unit {0}
-  IsTypedBiblock left right (bithen c cs) = IsTypedBicommand left right c × IsTypedBiblock left right cs
+  IsTypedBiblock left right (biseq c cs) = IsTypedBicommand left right c × IsTypedBiblock left right cs
 
 abbrev pub IsTypedAlign : Scope → Scope → Align → Type 0
 IsTypedAlign left right (given b) = IsTypedBiblock left right b

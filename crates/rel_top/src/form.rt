@@ -1,0 +1,1 @@
+//! Which bundles can be judged.

@@ -1,0 +1,7 @@
+//! The verifier: reads a bundle and a proof file, and says yes or refuses.
+#![tactic(auto)]
+
+mod form;
+mod obligation;
+
+fn main() {}

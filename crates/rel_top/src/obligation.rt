@@ -1,0 +1,1 @@
+//! The obligation of a bundle.
