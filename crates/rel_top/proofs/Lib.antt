@@ -1,0 +1,6 @@
+pub mod Runs
+pub mod PlainUnits
+pub mod Walks
+pub mod Ends
+pub mod Related
+pub mod TrueBundles
