@@ -1,5 +1,5 @@
 -- Lemmas on the reading of a proof file.
-use Rattle.std.proofs.Common.{◌≡◌, ◌≢◌, ℕ, ◌+◌, ◌-◌, ◌^◌, ◌<◌, ◌≤◌, suc, ℤ, pos, neg_ℤ, Bool, true, false, ◌&&◌, cond, eqb, leb, List, [], ◌∷◌, ◌++◌, map, length, get_or, drop, Option, Some, None, Result, Ok, Err, option_map, option_and_then, refl, sym, ap, ◌∙◌, arith, append_assoc, append-nil, add-one, drop-cons}
+use Rattle.std.proofs.Common.{◌≡◌, ℕ, ◌+◌, ◌-◌, ◌^◌, ◌<◌, ◌≤◌, suc, ℤ, pos, neg_ℤ, Bool, true, false, ◌&&◌, cond, eqb, leb, List, [], ◌∷◌, ◌++◌, map, length, get_or, drop, Option, Some, None, Result, Ok, Err, option_map, option_and_then, refl, sym, ap, ◌∙◌, arith, append_assoc, append-nil, add-one, drop-cons}
 use Rattle.std.proofs.Math.ListN.{drop_of_length-le}
 use Rattle.std.proofs.lemmas.List.{length-map, get_or-drop}
 use Rattle.std.proofs.lemmas.Bool.{and_from, and_parts, and_right, le-leb, leb-true, eq-eqb, ne_eqb, false_from_ne_true}
@@ -58,8 +58,8 @@ pub read_more : {A B X : Type 0} {f : A → Option B} {v : X → A} {xs : List X
     → IsReadTo f v xs i done → i < length xs → x ≡ get_or xs i x → f (v x) ≡ Some y → IsReadTo f v xs (i + 1) (done ++ y ∷ [])
 read_more {f = f} {v = v} {xs = xs} {i = i} {done = done} x y p h e s = record {
   rest = p.rest ∙ (ap (option_map (λ ys. done ++ ys)) (traverse_here f v xs i x h e
-    ∙ ap (option_and_then (λ z. option_map (λ ys. z ∷ ys) (traverse f (map v (drop (i + 1) xs))))) s)
-    ∙ joined done y (traverse f (map v (drop (i + 1) xs))));
+      ∙ ap (option_and_then (λ z. option_map (λ ys. z ∷ ys) (traverse f (map v (drop (i + 1) xs))))) s)
+      ∙ joined done y (traverse f (map v (drop (i + 1) xs))));
 }
 
 pub read_fails : {A B X : Type 0} {f : A → Option B} {v : X → A} {xs : List X} {i : ℕ} {done : List B} (x : X)
@@ -105,16 +105,16 @@ parsed_minus bs r h e low =
     let first : 49 ≤ get_or ds 0 0 = omega (arith, get_or-drop 1 bs 0 0) in
     let b = all_ascii_digits ds && leb 49 (get_or ds 0 0) && leb (digits_value 10 ds) (2 ^ 127) in
     let p = from_parse r _ b _ (parse_signed_minus own w128 bs r h e)
-      (λ q. and_from _ _ (and_from _ _ q.0 (le-leb 49 _ first)) (le-leb _ _ q.2))
-      (λ t. let u = and_parts _ _ t in ((and_parts _ _ u.0).0, some_byte ds first, leb-true _ _ u.1)) in
+    (λ q. and_from _ _ (and_from _ _ q.0 (le-leb 49 _ first)) (le-leb _ _ q.2))
+    (λ t. let u = and_parts _ _ t in ((and_parts _ _ u.0).0, some_byte ds first, leb-true _ _ u.1)) in
     p ∙ (sym (map_cond (λ n. neg_ℤ (pos n)) b (digits_value 10 ds)) ∙ sym (integer_minus bs e))
 
 pub parsed_plain : {E : Type 0} (bs : List ℕ) (r : Result ℤ E) → ParsesSigned w128 10 bs r → 49 ≤ get_or bs 0 0 → result_ok r ≡ integer_of bs
 parsed_plain bs r h first =
     let b = all_ascii_digits bs && leb 49 (get_or bs 0 0) && leb (digits_value 10 bs) (2 ^ 127 - 1) in
     let p = from_parse r _ b _ (parse_signed_plain own w128 bs r h (λ z. omega arith) (λ z. omega arith))
-      (λ q. and_from _ _ (and_from _ _ q.0 (le-leb 49 _ first)) (le-leb _ _ (omega arith)))
-      (λ t. let u = and_parts _ _ t in let low = leb-true (digits_value 10 bs) (2 ^ 127 - 1) u.1 in ((and_parts _ _ u.0).0, some_byte bs first, omega arith)) in
+    (λ q. and_from _ _ (and_from _ _ q.0 (le-leb 49 _ first)) (le-leb _ _ (omega arith)))
+    (λ t. let u = and_parts _ _ t in let low = leb-true (digits_value 10 bs) (2 ^ 127 - 1) u.1 in ((and_parts _ _ u.0).0, some_byte bs first, omega arith)) in
     p ∙ (sym (map_cond pos b (digits_value 10 bs)) ∙ sym (integer_plain bs first))
 
 -- ---- the whole text

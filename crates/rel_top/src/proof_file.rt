@@ -7,11 +7,10 @@ ghost use Rattle.rel_top.specs.ProofFile.{named_step, step_of, steps_of, is_one 
 ghost use Rattle.rel_top.specs.ProofFile.{has_two_keys as has_two_keys_of, derivations_of, derivation_of};
 ghost use Rattle.rel_top.specs.ProofFile.{json_of, proof_of};
 
+use crate::step::Step;
 use rel_list::{List, Memory};
 use serde_json::Value;
 use std::alloc::Global;
-
-use crate::step::Step;
 
 /// Why no proof was read.
 #[derive(Clone, Copy, Debug, PartialEq, Eq, Drop)]
@@ -77,7 +76,11 @@ fn integer(text: &str) -> Option<i128>
     if first >= b'1' {
         return text.parse::<i128>().ok();
     }
-    if first == b'0' && bytes.len() == 1 { Some(0) } else { None }
+    if first == b'0' && bytes.len() == 1 {
+        Some(0)
+    } else {
+        None
+    }
 }
 
 /// A formula's number and its multiplier.
@@ -228,5 +231,90 @@ pub fn read_proof(alloc: Global, bytes: &[u8]) -> Result<List<Step>, ProofFault>
     match derivation(&value) {
         Some(values) => steps(alloc, values),
         None => Err(ProofFault::NotBuilt),
+    }
+}
+
+#[cfg(test)]
+mod tests {
+    use super::{ProofFault, read_proof};
+    use crate::step::Step;
+    use std::test::Fail;
+
+    const THREE_STEPS: &str = "{\"whyrel\":1,\"proofs\":[[[\"neint\",5],\
+        [\"farkas\",[[6,\"1\"],[3,\"-1\"],[2,\"-1\"],[1,\"-1\"],[4,\"1\"]]],\
+        [\"farkas\",[[6,\"1\"],[3,\"1\"],[2,\"1\"],[1,\"1\"],[4,\"-1\"]]]]]}";
+
+    #[test]
+    fn reads_the_steps_in_their_order(rt: HostRuntime) -> Result<(), Fail> {
+        let steps = read_proof(rt.alloc(), THREE_STEPS.as_bytes())?;
+        let [
+            Step::Neint(number),
+            Step::Farkas(first),
+            Step::Farkas(second),
+        ] = steps.as_slice()
+        else {
+            assert!(rt; false);
+            return Ok(());
+        };
+        assert_eq!(rt; *number, 5);
+        let wanted: [(u32, i128); 5] = [(6, 1), (3, -1), (2, -1), (1, -1), (4, 1)];
+        assert_eq!(rt; first.as_slice(), wanted.as_slice());
+        let wanted: [(u32, i128); 5] = [(6, 1), (3, 1), (2, 1), (1, 1), (4, -1)];
+        assert_eq!(rt; second.as_slice(), wanted.as_slice());
+        Ok(())
+    }
+
+    #[test]
+    fn reads_the_largest_numbers(rt: HostRuntime) -> Result<(), Fail> {
+        let text =
+            "{\"proofs\":[[[\"farkas\",[[4294967295,\"-170141183460469231731687303715884105728\"],\
+            [0,\"170141183460469231731687303715884105727\"],[1,\"0\"]]]]],\"whyrel\":1}";
+        let steps = read_proof(rt.alloc(), text.as_bytes())?;
+        let [Step::Farkas(pairs)] = steps.as_slice() else {
+            assert!(rt; false);
+            return Ok(());
+        };
+        let wanted: [(u32, i128); 3] = [(4294967295, i128::MIN), (0, i128::MAX), (1, 0)];
+        assert_eq!(rt; pairs.as_slice(), wanted.as_slice());
+        Ok(())
+    }
+
+    #[test]
+    fn refuses_what_is_no_proof_file(rt: HostRuntime) -> Result<(), Fail> {
+        for text in [
+            "",
+            "{\"whyrel\":1,\"proofs\":[[]]",
+            "[1,[[]]]",
+            "{\"whyrel\":2,\"proofs\":[[]]}",
+            "{\"whyrel\":1.0,\"proofs\":[[]]}",
+            "{\"whyrel\":\"1\",\"proofs\":[[]]}",
+            "{\"version\":1,\"proofs\":[[]]}",
+            "{\"whyrel\":1,\"proof\":[[]]}",
+            "{\"whyrel\":1,\"proofs\":[[]],\"note\":0}",
+            "{\"whyrel\":1,\"proofs\":[]}",
+            "{\"whyrel\":1,\"proofs\":[[],[]]}",
+            "{\"whyrel\":1,\"proofs\":[{}]}",
+            "{\"whyrel\":1,\"proofs\":[[\"neint\",5]]}",
+            "{\"whyrel\":1,\"proofs\":[[[\"notint\",5]]]}",
+            "{\"whyrel\":1,\"proofs\":[[[\"neint\"]]]}",
+            "{\"whyrel\":1,\"proofs\":[[[\"neint\",5,6]]]}",
+            "{\"whyrel\":1,\"proofs\":[[[\"neint\",5.0]]]}",
+            "{\"whyrel\":1,\"proofs\":[[[\"neint\",-0]]]}",
+            "{\"whyrel\":1,\"proofs\":[[[\"neint\",\"5\"]]]}",
+            "{\"whyrel\":1,\"proofs\":[[[\"neint\",4294967296]]]}",
+            "{\"whyrel\":1,\"proofs\":[[[\"farkas\",[[6,1]]]]]}",
+            "{\"whyrel\":1,\"proofs\":[[[\"farkas\",[[6,\"01\"]]]]]}",
+            "{\"whyrel\":1,\"proofs\":[[[\"farkas\",[[6,\"-0\"]]]]]}",
+            "{\"whyrel\":1,\"proofs\":[[[\"farkas\",[[6,\"+5\"]]]]]}",
+            "{\"whyrel\":1,\"proofs\":[[[\"farkas\",[[6,\"-\"]]]]]}",
+            "{\"whyrel\":1,\"proofs\":[[[\"farkas\",[[6,\"\"]]]]]}",
+            "{\"whyrel\":1,\"proofs\":[[[\"farkas\",[[6,\"5x\"]]]]]}",
+            "{\"whyrel\":1,\"proofs\":[[[\"farkas\",[[6]]]]]}",
+            "{\"whyrel\":1,\"proofs\":[[[\"farkas\",[[6,\"170141183460469231731687303715884105728\"]]]]]}",
+        ] {
+            let outcome = read_proof(rt.alloc(), text.as_bytes());
+            assert!(rt; matches!(&outcome, Err(ProofFault::NotBuilt)));
+        }
+        Ok(())
     }
 }
