@@ -4,3 +4,4 @@ pub mod Walks
 pub mod Ends
 pub mod Related
 pub mod TrueBundles
+mod ProofFiles

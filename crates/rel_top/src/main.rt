@@ -3,5 +3,7 @@
 
 mod form;
 mod obligation;
+mod proof_file;
+mod step;
 
 fn main() {}
