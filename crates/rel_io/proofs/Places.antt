@@ -6,6 +6,10 @@ use Rattle.std.proofs.lemmas.Slice.Eq.{bytes_eq-Decides}
 use Rattle.std.proofs.lemmas.Bool.{cond-true, cond-false, false_from_ne_true}
 use Rattle.std.proofs.lemmas.List.{take_more, set_split, take-append-drop, get_or_default}
 use Rattle.rel_io.specs.Told.{Told, absent, bytes}
+use Rattle.std.specs.Prelude.{Result, Ok, Err}
+use Rattle.rel_io.specs.Answers.{UnlessFailed}
+use Rattle.rel_io.specs.declared.files.FileFault.{FileFault}
+use Rattle.rel_io.specs.declared.files.FileFault.TheVariants.{Failed, TooLong, Memory}
 use Rattle.rel_io.specs.Memory.{File, told_in, HaveDistinctNames, AreTold, IsPlace}
 
 pub told_first : (file : File) (files : List File) (name : List ℕ) → file.0 ≡ name →
@@ -99,3 +103,10 @@ all_told files distinct = λ front back file e.
     ap (λ all. told_in all file.0) e ∙ told_of front back file (subst HaveDistinctNames e distinct)
 
 pub ruleset put_lemmas = (told-set_same, told-set_other, told-push_same, told-push_other)
+
+-- what holds anyway
+pub unless_failed : {T : Type 0} (answer : Result T FileFault) (p : Type 0) → p → UnlessFailed answer p
+unless_failed (Ok value) p h = h
+unless_failed (Err Failed) p h = tt
+unless_failed (Err TooLong) p h = h
+unless_failed (Err Memory) p h = h
