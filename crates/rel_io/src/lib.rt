@@ -6,6 +6,7 @@ pub mod files;
 pub mod memory_files;
 pub mod memory_sink;
 pub mod sink;
+pub(crate) mod streams;
 
 pub use files::{FileFault, Files};
 pub use memory_files::MemFiles;
