@@ -9,7 +9,7 @@ use std::cmp;
 use std::io::{Error, ErrorKind, Read, Write};
 
 /// Want of memory, or else a failure.
-fn fault_of(error: &Error) -> FileFault
+pub(crate) fn fault_of(error: &Error) -> FileFault
     ensures { result ≢ FileFault.TooLong }
 {
     if error.kind() == ErrorKind::OutOfMemory {
