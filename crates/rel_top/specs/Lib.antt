@@ -1,3 +1,4 @@
 pub mod Form
 pub mod Obligation
 pub mod ProofFile
+pub mod Report

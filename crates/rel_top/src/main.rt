@@ -4,6 +4,7 @@
 mod form;
 mod obligation;
 mod proof_file;
+mod report;
 mod step;
 
 fn main() {}
