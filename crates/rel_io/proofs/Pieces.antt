@@ -1,5 +1,5 @@
 -- What a writer has taken, and a reader has given, after one more piece.
-use Rattle.std.proofs.Common.{◌≡◌, ℕ, ◌+◌, ◌<◌, ◌≤◌, List, ◌++◌, Some, None, Option, IfSome, length, take, drop, sym, ap, subst, arith, ◌-◌, length-append}
+use Rattle.std.proofs.Common.{ℕ, ◌+◌, ◌<◌, ◌≤◌, List, ◌++◌, Some, None, Option, IfSome, length, take, drop, sym, ap, subst, arith, ◌-◌, length-append}
 use Rattle.std.proofs.Math.Seq.{take-add}
 use Rattle.std.proofs.lemmas.List.{take_rest}
 use Rattle.std.proofs.KnownBytes.{Appends-trans, Consumes-trans}

@@ -1,11 +1,11 @@
 -- Where a file stands in a list of files, and what a change there does to what is told.
-use Rattle.std.proofs.Common.{◌≡◌, ℕ, suc, zero, ◌+◌, ◌<◌, ◌≤◌, List, [], ◌∷◌, ◌++◌, Bool, true, false, cond, length, get_or, take, drop, set, refl, sym, ◌∙◌, ap, subst, arith, add-one}
+use Rattle.std.proofs.Common.{◌≡◌, ℕ, suc, zero, ◌+◌, ◌<◌, List, [], ◌∷◌, ◌++◌, cond, length, get_or, take, drop, set, refl, sym, ◌∙◌, ap, subst, arith}
 use Rattle.std.proofs.Math.Seq.{drop-cons}
 use Rattle.std.specs.Str.{bytes_eq}
 use Rattle.std.proofs.lemmas.Slice.Eq.{bytes_eq-Decides}
 use Rattle.std.proofs.lemmas.Bool.{cond-true, cond-false, false_from_ne_true}
 use Rattle.std.proofs.lemmas.List.{take_more, set_split, take-append-drop, get_or_default}
-use Rattle.rel_io.specs.Told.{Told, absent, bytes}
+use Rattle.rel_io.specs.Told.{absent, bytes}
 use Rattle.std.specs.Prelude.{Result, Ok, Err}
 use Rattle.rel_io.specs.Answers.{UnlessFailed}
 use Rattle.rel_io.specs.declared.files.FileFault.{FileFault}

@@ -1,5 +1,7 @@
 //! Files in memory.
-ghost use Rattle.std.specs.Prelude.{◌≡◌, ℕ, ◌+◌, ◌-◌, ◌^◌, ◌<◌, ◌≤◌, ◌⊎◌, ◌↔◌, true, false, min, List as Listed, length, IfOk, IfSome, IfNone, OnOk, OnErr, IsTrue};
+ghost use Rattle.std.specs.Prelude.{◌≡◌, ◌+◌, ◌-◌, ◌^◌, ◌<◌, ◌≤◌, ◌⊎◌, ◌↔◌};
+ghost use Rattle.std.specs.Prelude.{ℕ, true, false, min, List as Listed, length};
+ghost use Rattle.std.specs.Prelude.{IfOk, IfSome, IfNone, OnOk, OnErr, IsTrue};
 ghost use Rattle.rel_io.specs.Told.{absent, bytes as standing, IsLonger, Rose};
 ghost use Rattle.rel_io.specs.Answers.{IfFailed, UnlessFailed, IfTooLong};
 ghost use Rattle.rel_io.specs.Memory.{told_in, HaveDistinctNames, AreTold, IsPlace, is_to_fail};

@@ -1,5 +1,7 @@
 //! A sink in memory, which takes its room when it is made.
-ghost use Rattle.std.specs.Prelude.{◌≡◌, ℕ, ◌+◌, ◌-◌, ◌^◌, ◌<◌, ◌≤◌, ◌⊎◌, ◌↔◌, false, min, List, [], Some, ◌++◌, length, vec_capacity, IfOk, OnOk, OnErr, IsTrue};
+ghost use Rattle.std.specs.Prelude.{◌≡◌, ◌+◌, ◌-◌, ◌^◌, ◌<◌, ◌≤◌, ◌⊎◌, ◌↔◌, ◌++◌};
+ghost use Rattle.std.specs.Prelude.{ℕ, false, min, List, [], Some, length, vec_capacity};
+ghost use Rattle.std.specs.Prelude.{IfOk, OnOk, OnErr, IsTrue};
 ghost use Rattle.rel_io.specs.Told.{Rose};
 ghost use Rattle.rel_io.specs.Memory.{is_to_fail};
 

@@ -1,5 +1,6 @@
 //! Whole contents through readers and writers that take and give a part at a time.
-ghost use Rattle.std.specs.Prelude.{◌≡◌, ℕ, ◌+◌, ◌<◌, ◌≤◌, ◌≢◌, List, ◌++◌, length, take, IfOk, IfSome, OnOk, OnErr, IsTrue};
+ghost use Rattle.std.specs.Prelude.{◌≡◌, ◌+◌, ◌<◌, ◌≤◌, ◌≢◌, ◌++◌};
+ghost use Rattle.std.specs.Prelude.{ℕ, List, length, take, IfOk, IfSome, OnOk, OnErr, IsTrue};
 ghost use Rattle.std.specs.Io.KnownBytes.{Appends, Consumes, IsAtEnd, Keeps};
 ghost use Rattle.rel_io.specs.Answers.{IfTooLong};
 
@@ -74,8 +75,8 @@ pub(crate) fn read_within<S: Read>(
     Err(FileFault::Failed)
 }
 
-/// Writes once, and answers how many bytes were taken: none where the call was interrupted, and a failure where
-/// the writer takes none.
+/// Writes once, and answers how many bytes were taken: none where the call was interrupted, and a failure
+/// where the writer takes none.
 fn write_piece<W: Write>(writer: &mut W, rest: &[u8]) -> Result<usize, FileFault>
     ensures at_most { IfOk result (λ n. n ≤ length rest.now) }
     ensures taken { IfOk result (λ n.

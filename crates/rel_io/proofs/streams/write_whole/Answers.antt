@@ -1,4 +1,4 @@
-use Rattle.std.proofs.Common.{◌≤◌, rules, arith}
+use Rattle.std.proofs.Common.{rules}
 use Rattle.rel_io.proofs.Pieces.{one_more_written}
 use Rattle.rel_io.proofs.streams.write_whole.Goals as goal
 

@@ -1,5 +1,5 @@
 use Rattle.std.proofs.Common.{◌≡◌}
-use Rattle.rel_io.specs.Told.{Told, absent, bytes}
+use Rattle.rel_io.specs.Told.{bytes}
 use Rattle.rel_io.specs.Memory.{told_in}
 use Rattle.rel_io.proofs.Places.{unless_failed}
 use Rattle.rel_io.proofs.memory_files.MemFilesFiles.read.Goals as goal
