@@ -1,0 +1,2 @@
+pub mod FormsLists
+pub mod FormsShape
