@@ -1,7 +1,7 @@
 -- The parts of a bundle as the code holds them, and what is asked of a unit in the words of its names.
 use Rattle.std.specs.Prelude.{◌≡◌, ◌≢◌, ◌⊎◌, Bool, true, false, if◌then◌else◌, List, [], ◌∷◌, map}
 use Rattle.std.specs.List.{AllByRecursion}
-use Rattle.rel_lang.specs.Syntax.{Word, Exp, var, num, add, sub, Rel, agree, Cmd, command, Form, assign, Effect, global}
+use Rattle.rel_lang.specs.Syntax.{Word, Exp, var, num, add, sub, Rel, agree, Cmd, command, Form, assign, Block, BiForm, split, Effect, global, without_at}
 use Rattle.rel_lang.specs.Run.{result_name}
 use Rattle.rel_lang.specs.Meets.{IsListed}
 use Rattle.rel_lang.specs.Typed.{IsAmong, AreDistinct}
@@ -60,6 +60,10 @@ pub record IsPlain (u : U.UnitItem) (p : Q.Proc) : Type 0 where
 -- the left operand reads the names in scope on the left, and the right operand those on the right
 abbrev pub ReadsRel : List Word → List Word → Rel → Type 0
 ReadsRel xs ys (agree e f) = Reads xs e × Reads ys f
+
+-- the biprogram's form splits into the two blocks
+abbrev pub IsSplitForm : BiForm → Block → Block → Type 0
+IsSplitForm (split a b) l r = (without_at a ≡ without_at l) × (without_at b ≡ without_at r)
 
 -- two units, one procedure of each, and a judgement
 pub record Held : Type 0 where

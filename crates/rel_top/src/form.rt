@@ -1,5 +1,6 @@
 //! Which bundles can be judged.
 
+mod judged;
 mod plain;
 mod scope;
 mod shape;
