@@ -1,5 +1,5 @@
 -- Walks along declarations and lists of effects.
-use Rattle.std.proofs.Common.{◌≡◌, ◌≢◌, ◌⊎◌, inl, inr, ⊎_elim, ℕ, ◌+◌, ◌<◌, ◌≤◌, List, [], ◌∷◌, length, get_or, drop, take, map, refl, sym, ap, subst, ◌∙◌, arith}
+use Rattle.std.proofs.Common.{◌≡◌, ◌⊎◌, inl, inr, ⊎_elim, ℕ, ◌+◌, ◌<◌, ◌≤◌, List, ◌∷◌, length, get_or, drop, map, refl, sym, ap, subst}
 use Rattle.std.specs.List.{AllByRecursion}
 use Rattle.std.proofs.lemmas.List.{drop_more, drop_all}
 use Rattle.rel_lang.specs.Syntax.{Word, Effect, global}
@@ -8,7 +8,7 @@ use Rattle.rel_lang.specs.Typed.{IsAmong, AreDistinct}
 use Rattle.rel_lang.specs.declared.bundle.Decl.{Decl}
 use Rattle.rel_lang.specs.declared.bundle.Effect as E
 use Rattle.rel_lang.specs.View.{effect_of}
-use Rattle.rel_top.specs.Parts.{name_of, names_of}
+use Rattle.rel_top.specs.Parts.{names_of}
 
 -- ---- is_declared
 

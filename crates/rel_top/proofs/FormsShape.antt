@@ -1,5 +1,5 @@
--- Lists of one and of three.
-use Rattle.std.proofs.Common.{◌≡◌, ℕ, ◌<◌, List, [], ◌∷◌, length, get_or, refl, ap, arith}
+-- Lists of one and of three, and biprograms of one command.
+use Rattle.std.proofs.Common.{◌≡◌, List, [], ◌∷◌, length, get_or, refl, arith}
 use Rattle.rel_lang.specs.Syntax.{Block, BiForm, split, bicommand, bidone, biseq, given}
 use Rattle.rel_lang.specs.declared.biprogram.BiCommand.{BiCommand}
 use Rattle.rel_lang.specs.View.{biform_of, biblock_of}

@@ -1,2 +1,5 @@
+pub mod Forms
 pub mod FormsLists
+pub mod FormsScope
 pub mod FormsShape
+pub mod FormsUnit

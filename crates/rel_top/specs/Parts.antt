@@ -1,7 +1,7 @@
 -- The parts of a bundle as the code holds them, and what is asked of a unit in the words of its names.
 use Rattle.std.specs.Prelude.{◌≡◌, ◌≢◌, ◌⊎◌, Bool, true, false, if◌then◌else◌, List, [], ◌∷◌, map}
 use Rattle.std.specs.List.{AllByRecursion}
-use Rattle.rel_lang.specs.Syntax.{Word, Exp, var, num, add, sub, Rel, agree, Cmd, command, Form, assign, Block, BiForm, split, Effect, global, without_at}
+use Rattle.rel_lang.specs.Syntax.{Word, Exp, var, num, add, sub, Rel, agree, Cmd, command, assign, Block, BiForm, split, Effect, global, without_at}
 use Rattle.rel_lang.specs.Run.{result_name}
 use Rattle.rel_lang.specs.Meets.{IsListed}
 use Rattle.rel_lang.specs.Typed.{IsAmong, AreDistinct}

@@ -24,7 +24,11 @@ pub fn is_judged(p: &Parts) -> bool
         && is_named(p)
         && reads_sides(&p.judgement.needs.formula, p.left, p.right, false)
         && reads_sides(&p.judgement.gives.formula, p.left, p.right, true)
-        && is_split(&p.judgement.align, &p.left_proc.body.commands, &p.right_proc.body.commands)
+        && is_split(
+            &p.judgement.align,
+            &p.left_proc.body.commands,
+            &p.right_proc.body.commands,
+        )
 }
 
 fn is_named(p: &Parts) -> bool
@@ -41,10 +45,8 @@ fn is_named(p: &Parts) -> bool
 }
 
 fn reads_sides(formula: &RelFormula, left: &UnitItem, right: &UnitItem, with_result: bool) -> bool
-    ensures {
-        IsTrue result
-        ↔ ReadsRel (visible with_result left.now.globals) (visible with_result right.now.globals) (rel_of formula.now)
-    }
+    ensures { IsTrue result
+        ↔ ReadsRel (visible with_result left.now.globals) (visible with_result right.now.globals) (rel_of formula.now) }
 {
     match formula {
         RelFormula::Agree(e, f) => reads_only(e, &left.globals, with_result)

@@ -7,7 +7,7 @@ use Rattle.rel_top.proofs.form.scope.is_listed.Goals as goal
 pub returns-then-is_effect : goal.returns-then-is_effect
 returns-then-is_effect c =
     let same : effect_of (get_or c.args.writes.now c.loop-i.i c.at.result.now) ≡ global c.args.x.now =
-      ap effect_of (sym c.at.ensures) ∙ c.is_effect.ensures.0 c.if-is_effect.true in
+    ap effect_of (sym c.at.ensures) ∙ c.is_effect.ensures.0 c.if-is_effect.true in
     (λ _. c.loop-i.invariant.1 (listed_here c.args.x.now c.args.writes.now c.loop-i.i c.at.result.now (omega arith) same), λ _. refl)
 
 pub loop-i-preserved : goal.loop-i-preserved
