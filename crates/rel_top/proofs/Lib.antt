@@ -5,3 +5,8 @@ pub mod Ends
 pub mod Related
 pub mod TrueBundles
 mod ProofFiles
+pub mod Forms
+pub mod FormsLists
+pub mod FormsScope
+pub mod FormsShape
+pub mod FormsUnit

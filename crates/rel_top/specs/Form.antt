@@ -1,6 +1,6 @@
 -- The bundles that can be judged so far: two units of one procedure each, and a judgement about these two.
 use Rattle.std.specs.Prelude.{◌≡◌, ◌⊎◌, List, [], ◌∷◌}
-use Rattle.rel_lang.specs.Syntax.{Word, Exp, Rel, agree, Cmd, command, Form, assign, Block, done, seq, BiForm, split, BiBlock, bidone, biseq, bicommand, Align, given, Effect, Proc, UnitItem, Judgement, Item, unit, judge, Bundle, without_at}
+use Rattle.rel_lang.specs.Syntax.{command, assign, Block, done, seq, split, bidone, biseq, bicommand, Align, given, Effect, Proc, UnitItem, Judgement, unit, judge, Bundle, without_at}
 use Rattle.rel_lang.specs.Run.{result_name}
 use Rattle.rel_lang.specs.Meets.{IsListed}
 use Rattle.rel_lang.specs.Typed.{IsTyped}

@@ -2,3 +2,4 @@ pub mod Form
 pub mod Obligation
 pub mod ProofFile
 pub mod Report
+pub mod Parts
