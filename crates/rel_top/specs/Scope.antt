@@ -1,0 +1,18 @@
+-- The store that a side's variables stand for.
+use Rattle.std.specs.Prelude.{ℕ, map}
+use Rattle.rel_lang.specs.Syntax.{Word, Form, command, seq, done}
+use Rattle.rel_logic.specs.Syntax.{Trm}
+use Rattle.rel_logic.specs.View.{trm_of}
+use Rattle.rel_top.specs.Obligation.{Store, Walked, walk}
+use Rattle.rel_top.specs.declared.obligation.Variable.{Variable}
+use Rattle.rel_top.specs.declared.obligation.Terms.{Terms}
+
+abbrev pub entry_of : Variable → Word × Trm
+entry_of v = (v.name, trm_of v.term)
+
+abbrev pub store_of : Terms → Store
+store_of s = map entry_of s.variables.items
+
+-- what one command gives
+abbrev pub one_step : Store → ℕ → Form → Walked
+one_step st n f = walk st n (seq (command 0 f) done)
