@@ -9,10 +9,11 @@ use Rattle.rel_lang.specs.Run.{result_name}
 use Rattle.rel_lang.specs.View.{decl_of, form_of, block_of}
 use Rattle.rel_lang.specs.declared.bundle.Decl.{Decl}
 use Rattle.rel_lang.specs.declared.command.Command.{Command}
-use Rattle.rel_logic.specs.Syntax.{Trm, var, int, Fml, Srt, int_sort}
+use Rattle.rel_logic.specs.Syntax.{Trm, var, int, Fml, Srt, int_sort, rgn_sort, bij_sort}
 use Rattle.rel_logic.specs.View.{trm_of}
 use Rattle.rel_logic.specs.declared.term.Term.{Term, Int, the_lemmas}
-use Rattle.rel_top.specs.Obligation.{Store, look_up, with_term, numbered, Walked, walk, block_len}
+use Rattle.rel_top.specs.Obligation.{Store, look_up, with_term, numbered, Walked, walk, block_len, inside, relation_of, left_alloc, first_right, right_alloc, bijection, first_fresh, left_block, right_block, left_start, right_start, left_walk, right_walk, obligation_of}
+use Rattle.rel_top.specs.Form.{Parts}
 use Rattle.rel_top.specs.Scope.{entry_of, one_step}
 use Rattle.rel_top.specs.declared.obligation.Variable.{Variable}
 
@@ -123,3 +124,34 @@ pub ruleset scopes = (look_up_at, look_up_none, with_term_at, with_term_none)
 pub ints_more : (n : ℕ) (a b c : List Srt) → b ≡ a ++ replicate n int_sort → c ≡ b ++ int_sort ∷ [] → c ≡ a ++ replicate (n + 1) int_sort
 ints_more n a b c e f =
     f ∙ ap (λ l. l ++ int_sort ∷ []) e ∙ append_assoc a (replicate n int_sort) (int_sort ∷ []) ∙ ap (λ l. a ++ l) (replicate_more n int_sort)
+
+-- from what the code computes
+pub obligation_is : (k : Parts) (l r p q : ℕ) (sorts : List Srt) (lt rt lt' rt' : Store) (hyps more all : List Fml) (goal : Fml)
+    → l ≡ length k.left.globals → r ≡ length k.right.globals → p ≡ block_len k.left_proc.body.commands → q ≡ block_len k.right_proc.body.commands
+    → sorts ≡ replicate l int_sort ++ rgn_sort ∷ replicate r int_sort ++ rgn_sort ∷ bij_sort ∷ replicate (p + q) int_sort
+    → lt ≡ numbered 0 k.left.globals → rt ≡ numbered (l + 1) k.right.globals
+    → hyps ≡ inside (l + 1 + r + 1) l (l + 1 + r) ∷ relation_of lt rt k.judgement.needs.formula ∷ []
+    → lt' ≡ (walk lt (l + 1 + r + 2) k.left_proc.body.commands).store
+    → more ≡ hyps ++ (walk lt (l + 1 + r + 2) k.left_proc.body.commands).hyps
+    → rt' ≡ (walk rt (l + 1 + r + 2 + p) k.right_proc.body.commands).store
+    → all ≡ more ++ (walk rt (l + 1 + r + 2 + p) k.right_proc.body.commands).hyps
+    → goal ≡ relation_of lt' rt' k.judgement.gives.formula
+    → record { sorts = sorts; hyps = all; goal = goal } ≡ obligation_of k
+obligation_is k l r p q sorts lt rt lt' rt' hyps more all goal el er ep eq_ es elt ert eh elt' em ert' ea eg =
+    let first : l + 1 ≡ first_right k = omega arith in
+    let alloc : l + 1 + r ≡ right_alloc k = omega arith in
+    let pairs : l + 1 + r + 1 ≡ bijection k = omega arith in
+    let fresh : l + 1 + r + 2 ≡ first_fresh k = omega arith in
+    let later : l + 1 + r + 2 + p ≡ first_fresh k + block_len (left_block k) = omega arith in
+    let right_from : rt ≡ right_start k = ert ∙ ap (λ n. numbered n k.right.globals) first in
+    let on_left : walk lt (l + 1 + r + 2) (left_block k) ≡ left_walk k = λ i. walk (elt i) (fresh i) (left_block k) in
+    let on_right : walk rt (l + 1 + r + 2 + p) (right_block k) ≡ right_walk k = λ i. walk (right_from i) (later i) (right_block k) in
+    let left_to : lt' ≡ (left_walk k).store = elt' ∙ ap (λ w. w.store) on_left in
+    let right_to : rt' ≡ (right_walk k).store = ert' ∙ ap (λ w. w.store) on_right in
+    let at_start : hyps ≡ inside (bijection k) (left_alloc k) (right_alloc k) ∷ relation_of (left_start k) (right_start k) k.judgement.needs.formula ∷ [] =
+    eh ∙ (λ i. inside (pairs i) (el i) (alloc i) ∷ relation_of (elt i) (right_from i) k.judgement.needs.formula ∷ []) in
+    let sorted = es ∙ (λ i. replicate (el i) int_sort ++ rgn_sort ∷ replicate (er i) int_sort ++ rgn_sort ∷ bij_sort ∷ replicate (ep i + eq_ i) int_sort) in
+    let left_hyps = em ∙ (λ i. at_start i ++ (on_left i).hyps) in
+    let all_hyps = ea ∙ (λ i. left_hyps i ++ (on_right i).hyps) in
+    let reached = eg ∙ (λ i. relation_of (left_to i) (right_to i) k.judgement.gives.formula) in
+    λ i. record { sorts = sorted i; hyps = all_hyps i; goal = reached i }

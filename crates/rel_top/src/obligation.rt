@@ -6,7 +6,7 @@ ghost use Rattle.rel_lang.specs.Syntax.{command, seq, done};
 ghost use Rattle.rel_logic.specs.Syntax.{int_sort, rgn_sort, bij_sort};
 ghost use Rattle.rel_logic.specs.View.{sort_of, trm_of, fml_of, sequent_of};
 ghost use Rattle.rel_top.specs.declared.obligation.Variable.{Variable};
-ghost use Rattle.rel_top.specs.Scope.{store_of, one_step};
+ghost use Rattle.rel_top.specs.Scope.{store_of, one_step, parts_of};
 ghost use Rattle.rel_top.specs.Obligation.{look_up, with_term, term_of, numbered, walk, inside, relation_of, obligation_of};
 
 use rel_lang::bundle::{Decl, Judgement, Proc, UnitItem};
@@ -62,8 +62,8 @@ impl Terms {
         Ok(())
     }
 
-    #[tactic(auto, using(crate::proofs::Obligations::scopes))]
     /// A copy of the term of the variable of this name.
+    #[tactic(auto, using(crate::proofs::Obligations::scopes))]
     fn of(&self, x: &Name) -> Result<Term, Memory>
         ensures { IfOk result (λ t. trm_of t ≡ look_up x.now (store_of self.now)) }
     {
@@ -75,8 +75,8 @@ impl Terms {
         }
     }
 
-    #[tactic(auto, using(crate::proofs::Obligations::scopes))]
     /// Lets another term stand for the variable of this name.
+    #[tactic(auto, using(crate::proofs::Obligations::scopes))]
     fn set(&mut self, x: &Name, term: Term)
         ensures { store_of self.new ≡ with_term x.now (trm_of term) (store_of self.old) }
     {
@@ -204,3 +204,68 @@ fn sorts(alloc: Global, left: usize, right: usize, fresh: usize) -> Result<List<
     push_ints(&mut sorts, fresh)?;
     Ok(sorts)
 }
+
+/// The hypotheses about the start.
+fn first_hyps(
+    alloc: Global,
+    left_alloc: u32,
+    right_alloc: u32,
+    left: &Terms,
+    right: &Terms,
+    needs: &RelFormula,
+) -> Result<List<Fol>, Memory>
+    requires { right_alloc + 1 < 2 ^ 32 }
+    ensures { IfOk result (λ h. map fml_of h ≡ inside (right_alloc + 1) left_alloc right_alloc ∷ relation_of (store_of left.now) (store_of right.now) (rel_of needs.now) ∷ []) }
+{
+    let mut hyps = List::new(alloc);
+    hyps.push(pairs_inside(alloc, right_alloc + 1, left_alloc, right_alloc)?)?;
+    hyps.push(relation(alloc, left, right, needs)?)?;
+    Ok(hyps)
+}
+
+/// The one obligation of a bundle with these parts.
+pub fn obligation(
+    alloc: Global,
+    left: &UnitItem,
+    left_proc: &Proc,
+    right: &UnitItem,
+    right_proc: &Proc,
+    judgement: &Judgement,
+) -> Result<Sequent, Memory>
+    requires left_globals { length left.now.globals < 2 ^ 30 }
+    requires right_globals { length right.now.globals < 2 ^ 30 }
+    requires left_commands { length left_proc.now.body.commands < 2 ^ 30 }
+    requires right_commands { length right_proc.now.body.commands < 2 ^ 30 }
+    ensures { let parts = parts_of left.now left_proc.now right.now right_proc.now judgement.now in
+        IfOk result (λ q. sequent_of q ≡ obligation_of parts) }
+{
+    let left_block = &left_proc.body.commands;
+    let right_block = &right_proc.body.commands;
+    let left_count = left_block.len();
+    let right_count = right_block.len();
+    let left_len = left.globals.len();
+    let right_len = right.globals.len();
+    let sorts = sorts(alloc, left_len, right_len, left_count + right_count)?;
+    let left_alloc = left_len as u32;
+    let right_alloc = left_alloc + 1 + right_len as u32;
+    let first_fresh = right_alloc + 2;
+    let mut left_terms = start(alloc, 0, &left.globals)?;
+    let mut right_terms = start(alloc, left_alloc + 1, &right.globals)?;
+    let needs = &judgement.needs.formula;
+    let mut hyps = first_hyps(
+        alloc,
+        left_alloc,
+        right_alloc,
+        &left_terms,
+        &right_terms,
+        needs,
+    )?;
+    walk_block(alloc, &mut left_terms, first_fresh, left_block, &mut hyps)?;
+    let right_fresh = first_fresh + left_count as u32;
+    walk_block(alloc, &mut right_terms, right_fresh, right_block, &mut hyps)?;
+    let goal = relation(alloc, &left_terms, &right_terms, &judgement.gives.formula)?;
+    Ok(Sequent { sorts, hyps, goal })
+}
+
+#[cfg(test)]
+mod tests;

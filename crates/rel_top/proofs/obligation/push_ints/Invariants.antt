@@ -3,5 +3,5 @@ use Rattle.rel_logic.specs.Syntax.{int_sort}
 use Rattle.rel_logic.specs.View.{sort_of}
 use Rattle.rel_top.proofs.obligation.push_ints.Given as goal
 
-abbrev pub invariant-loop-_i : goal.invariant-loop-_i
-invariant-loop-_i l = map sort_of l.sorts ≡ map sort_of l.initial.sorts ++ replicate l._i int_sort
+abbrev pub invariant-loop-i : goal.invariant-loop-i
+invariant-loop-i l = map sort_of l.sorts ≡ map sort_of l.initial.sorts ++ replicate l._i int_sort
