@@ -1,20 +1,16 @@
 -- Look-ups and changes in a scope, and walks along a block.
-use Rattle.std.proofs.Common.{◌≡◌, ◌≢◌, ℕ, zero, suc, pos, ◌+◌, ◌<◌, ◌≤◌, Bool, true, false, if◌then◌else◌, List, [], ◌∷◌, ◌++◌, length, get_or, take, drop, set, map, replicate, All, refl, sym, ap, ◌∙◌, arith, append_assoc, rules}
-use Rattle.std.proofs.lemmas.List.{drop_more, drop_all, length-map, replicate_more}
+use Rattle.std.proofs.Common.{◌≡◌, ◌≢◌, ℕ, zero, suc, pos, ◌+◌, ◌<◌, ◌≤◌, Bool, true, false, if◌then◌else◌, List, [], ◌∷◌, ◌++◌, length, get_or, take, drop, set, map, replicate, All, refl, sym, ap, ◌∙◌, arith, rules}
 use Rattle.std.specs.Str.{bytes_eq}
 use Rattle.std.proofs.lemmas.Slice.Eq.{bytes_eq-Decides}
-use Rattle.rel_lang.specs.Syntax.{Word, command, assign, seq, done, Block}
-use Rattle.rel_lang.specs.Syntax as L
-use Rattle.rel_lang.specs.Run.{result_name}
-use Rattle.rel_lang.specs.View.{decl_of, form_of, block_of}
-use Rattle.rel_lang.specs.declared.bundle.Decl.{Decl}
+use Rattle.rel_lang.specs.Syntax.{Word}
+use Rattle.rel_lang.specs.View.{block_of}
 use Rattle.rel_lang.specs.declared.command.Command.{Command}
-use Rattle.rel_logic.specs.Syntax.{Trm, var, int, Fml, Srt, int_sort, rgn_sort, bij_sort}
+use Rattle.rel_logic.specs.Syntax.{Trm, int, Fml, Srt, int_sort, rgn_sort, bij_sort}
 use Rattle.rel_logic.specs.View.{trm_of}
 use Rattle.rel_logic.specs.declared.term.Term.{Term, Int, the_lemmas}
 use Rattle.rel_top.specs.Obligation.{Store, look_up, with_term, numbered, Walked, walk, block_len, inside, relation_of, left_alloc, first_right, right_alloc, bijection, first_fresh, left_block, right_block, left_start, right_start, left_walk, right_walk, obligation_of}
 use Rattle.rel_top.specs.Form.{Parts}
-use Rattle.rel_top.specs.Scope.{entry_of, one_step}
+use Rattle.rel_top.specs.Scope.{entry_of}
 use Rattle.rel_top.specs.declared.obligation.Variable.{Variable}
 
 pub zero_is : trm_of (Int (pos 0)) ≡ int (pos 0)
@@ -65,65 +61,15 @@ with_term_none x (w ∷ ws) (suc i) t a h =
     ap (λ b. if b then (w.name, t) ∷ map entry_of ws else entry_of w ∷ with_term x t (map entry_of ws)) (differ x w.name (a 0 w (omega arith)))
     ∙ ap (λ s. entry_of w ∷ s) (with_term_none x ws i t (λ k d l. a (suc k) d (omega arith)) (omega arith))
 
--- one more global
-pub start_more : (s s' : Store) (first : ℕ) (ds : List Decl) (i : ℕ) (d : Decl) → i < length ds → d ≡ get_or ds i d → s' ≡ s ++ (d.name, var (first + i)) ∷ []
-    → s' ++ numbered (first + (i + 1)) (map decl_of (drop (i + 1) ds)) ≡ s ++ numbered (first + i) (map decl_of (drop i ds))
-start_more s s' first ds i d h is e =
-    let next : first + (i + 1) ≡ suc (first + i) = omega arith in
-    let here : numbered (first + i) (map decl_of (drop i ds)) ≡ (d.name, var (first + i)) ∷ numbered (suc (first + i)) (map decl_of (drop (i + 1) ds)) =
-    ap (λ l. numbered (first + i) (map decl_of l)) (drop_more ds i d h)
-    ∙ ap (λ u. (u.name, var (first + i)) ∷ numbered (suc (first + i)) (map decl_of (drop (i + 1) ds))) (sym is) in
-    ap (λ l. l ++ numbered (first + (i + 1)) (map decl_of (drop (i + 1) ds))) e
-    ∙ ap (λ n. (s ++ (d.name, var (first + i)) ∷ []) ++ numbered n (map decl_of (drop (i + 1) ds))) next
-    ∙ append_assoc s ((d.name, var (first + i)) ∷ []) (numbered (suc (first + i)) (map decl_of (drop (i + 1) ds)))
-    ∙ ap (λ l. s ++ l) (sym here)
-
-pub start_end : (n : ℕ) (ds : List Decl) (i : ℕ) → length ds ≤ i → numbered n (map decl_of (drop i ds)) ≡ (result_name, int (pos 0)) ∷ []
-start_end n ds i h = ap (λ l. numbered n (map decl_of l)) (drop_all i ds h)
-
-walk_first : (st : Store) (n at : ℕ) (f : L.Form) (cs : Block)
-    → walk st n (seq (command at f) cs) ≡ (let w = one_step st n f in let rest = walk w.store (suc n) cs in record { hyps = w.hyps ++ rest.hyps; store = rest.store })
-walk_first st n at (assign x e) cs = refl
-
 -- what is still to walk after i commands
 abbrev pub rest_of : Store → ℕ → List Command → ℕ → Walked
 rest_of st n cs i = walk st (n + i) (block_of (drop i cs))
-
-rest_more : (st : Store) (n : ℕ) (cs : List Command) (i : ℕ) (c : Command) → i < length cs → c ≡ get_or cs i c
-    → rest_of st n cs i ≡ (let w = one_step st (n + i) (form_of c.form) in let rest = rest_of w.store n cs (i + 1) in record { hyps = w.hyps ++ rest.hyps; store = rest.store })
-rest_more st n cs i c h is =
-    let next : suc (n + i) ≡ n + (i + 1) = omega arith in
-    ap (λ l. walk st (n + i) (block_of l)) (drop_more cs i c h)
-    ∙ ap (λ u. walk st (n + i) (block_of (u ∷ drop (i + 1) cs))) (sym is)
-    ∙ walk_first st (n + i) c.at (form_of c.form) (block_of (drop (i + 1) cs))
-    ∙ ap (λ m. let w = one_step st (n + i) (form_of c.form) in let rest = walk w.store m (block_of (drop (i + 1) cs)) in record { hyps = w.hyps ++ rest.hyps; store = rest.store }) next
-
-pub store_more : (s s' : Store) (n : ℕ) (cs : List Command) (i : ℕ) (c : Command) → i < length cs → c ≡ get_or cs i c
-    → s' ≡ (one_step s (n + i) (form_of c.form)).store → (rest_of s' n cs (i + 1)).store ≡ (rest_of s n cs i).store
-store_more s s' n cs i c h is e = ap (λ st. (rest_of st n cs (i + 1)).store) e ∙ sym (ap (λ w. w.store) (rest_more s n cs i c h is))
-
-pub hyps_more : (s s' : Store) (hs hs' : List Fml) (n : ℕ) (cs : List Command) (i : ℕ) (c : Command) → i < length cs → c ≡ get_or cs i c
-    → s' ≡ (one_step s (n + i) (form_of c.form)).store → hs' ≡ hs ++ (one_step s (n + i) (form_of c.form)).hyps
-    → hs' ++ (rest_of s' n cs (i + 1)).hyps ≡ hs ++ (rest_of s n cs i).hyps
-hyps_more s s' hs hs' n cs i c h is e k =
-    let w = one_step s (n + i) (form_of c.form) in
-    ap (λ st. hs' ++ (rest_of st n cs (i + 1)).hyps) e
-    ∙ ap (λ l. l ++ (rest_of w.store n cs (i + 1)).hyps) k
-    ∙ append_assoc hs w.hyps (rest_of w.store n cs (i + 1)).hyps
-    ∙ sym (ap (λ v. hs ++ v.hyps) (rest_more s n cs i c h is))
-
-pub rest_end : (st : Store) (n : ℕ) (cs : List Command) (i : ℕ) → length cs ≤ i → rest_of st n cs i ≡ record { hyps = []; store = st }
-rest_end st n cs i h = ap (λ l. walk st (n + i) (block_of l)) (drop_all i cs h)
 
 pub block_len_is : (cs : List Command) → block_len (block_of cs) ≡ length cs
 block_len_is [] = refl
 block_len_is (c ∷ cs) = ap suc (block_len_is cs)
 
 pub ruleset scopes = (look_up_at, look_up_none, with_term_at, with_term_none)
-
-pub ints_more : (n : ℕ) (a b c : List Srt) → b ≡ a ++ replicate n int_sort → c ≡ b ++ int_sort ∷ [] → c ≡ a ++ replicate (n + 1) int_sort
-ints_more n a b c e f =
-    f ∙ ap (λ l. l ++ int_sort ∷ []) e ∙ append_assoc a (replicate n int_sort) (int_sort ∷ []) ∙ ap (λ l. a ++ l) (replicate_more n int_sort)
 
 -- from what the code computes
 pub obligation_is : (k : Parts) (l r p q : ℕ) (sorts : List Srt) (lt rt lt' rt' : Store) (hyps more all : List Fml) (goal : Fml)

@@ -1,13 +1,14 @@
 //! The obligation of a bundle.
 
-ghost use Rattle.std.specs.Prelude.{◌≡◌, ◌≢◌, ◌+◌, ◌<◌, ◌≤◌, ◌^◌, [], ◌∷◌, ◌++◌, length, map, take, get_or, replicate, All, IfOk, OnOk};
-ghost use Rattle.rel_lang.specs.View.{exp_of, form_of, rel_of, block_of, decl_of, unit_of, proc_of, judgement_of};
-ghost use Rattle.rel_lang.specs.Syntax.{command, seq, done};
+ghost use Rattle.std.specs.Prelude.{◌≡◌, ◌≢◌, ◌+◌, ◌<◌, ◌≤◌, ◌^◌, [], ◌∷◌, ◌++◌, length, map, take};
+ghost use Rattle.std.specs.Prelude.{get_or, replicate, All, IfOk, OnOk};
+ghost use Rattle.rel_lang.specs.View.{exp_of, form_of, rel_of, block_of, decl_of};
 ghost use Rattle.rel_logic.specs.Syntax.{int_sort, rgn_sort, bij_sort};
 ghost use Rattle.rel_logic.specs.View.{sort_of, trm_of, fml_of, sequent_of};
 ghost use Rattle.rel_top.specs.declared.obligation.Variable.{Variable};
 ghost use Rattle.rel_top.specs.Scope.{store_of, one_step, parts_of};
-ghost use Rattle.rel_top.specs.Obligation.{look_up, with_term, term_of, numbered, walk, inside, relation_of, obligation_of};
+ghost use Rattle.rel_top.specs.Obligation.{look_up, with_term, term_of, numbered, walk, inside};
+ghost use Rattle.rel_top.specs.Obligation.{relation_of, obligation_of};
 
 use rel_lang::bundle::{Decl, Judgement, Proc, UnitItem};
 use rel_lang::command::{Command, Form};
@@ -150,8 +151,10 @@ fn step(
     form: &Form,
     hyps: &mut List<Fol>,
 ) -> Result<(), Memory>
-    ensures store { OnOk result (store_of terms.new ≡ (one_step (store_of terms.old) n (form_of form.now)).store) }
-    ensures hyps { let w = one_step (store_of terms.old) n (form_of form.now) in OnOk result (map fml_of hyps.new ≡ map fml_of hyps.old ++ w.hyps) }
+    ensures store { let w = one_step (store_of terms.old) n (form_of form.now) in
+        OnOk result (store_of terms.new ≡ w.store) }
+    ensures hyps { let w = one_step (store_of terms.old) n (form_of form.now) in
+        OnOk result (map fml_of hyps.new ≡ map fml_of hyps.old ++ w.hyps) }
 {
     match form {
         Form::Assign(x, e) => {
@@ -172,8 +175,10 @@ fn walk_block(
     hyps: &mut List<Fol>,
 ) -> Result<(), Memory>
     requires { first + length commands.now < 2 ^ 32 }
-    ensures store { OnOk result (store_of terms.new ≡ (walk (store_of terms.old) first (block_of commands.now)).store) }
-    ensures hyps { let w = walk (store_of terms.old) first (block_of commands.now) in OnOk result (map fml_of hyps.new ≡ map fml_of hyps.old ++ w.hyps) }
+    ensures store { let w = walk (store_of terms.old) first (block_of commands.now) in
+        OnOk result (store_of terms.new ≡ w.store) }
+    ensures hyps { let w = walk (store_of terms.old) first (block_of commands.now) in
+        OnOk result (map fml_of hyps.new ≡ map fml_of hyps.old ++ w.hyps) }
 {
     for i in 0..commands.len() {
         step(alloc, terms, first + i as u32, &commands.at(i).form, hyps)?;
@@ -193,7 +198,9 @@ fn push_ints(sorts: &mut List<Sort>, count: usize) -> Result<(), Memory>
 
 /// The sorts of the variables of an obligation, of which `fresh` stand for new values.
 fn sorts(alloc: Global, left: usize, right: usize, fresh: usize) -> Result<List<Sort>, Memory>
-    ensures { IfOk result (λ s. map sort_of s ≡ replicate left int_sort ++ rgn_sort ∷ replicate right int_sort ++ rgn_sort ∷ bij_sort ∷ replicate fresh int_sort) }
+    ensures { let on_left = replicate left int_sort ++ rgn_sort ∷ replicate right int_sort in
+        let all = on_left ++ rgn_sort ∷ bij_sort ∷ replicate fresh int_sort in
+        IfOk result (λ s. map sort_of s ≡ all) }
 {
     let mut sorts = List::new(alloc);
     push_ints(&mut sorts, left)?;
@@ -215,7 +222,9 @@ fn first_hyps(
     needs: &RelFormula,
 ) -> Result<List<Fol>, Memory>
     requires { right_alloc + 1 < 2 ^ 32 }
-    ensures { IfOk result (λ h. map fml_of h ≡ inside (right_alloc + 1) left_alloc right_alloc ∷ relation_of (store_of left.now) (store_of right.now) (rel_of needs.now) ∷ []) }
+    ensures { let pairs = inside (right_alloc + 1) left_alloc right_alloc in
+        let related = relation_of (store_of left.now) (store_of right.now) (rel_of needs.now) in
+        IfOk result (λ h. map fml_of h ≡ pairs ∷ related ∷ []) }
 {
     let mut hyps = List::new(alloc);
     hyps.push(pairs_inside(alloc, right_alloc + 1, left_alloc, right_alloc)?)?;

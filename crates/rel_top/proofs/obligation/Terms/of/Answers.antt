@@ -1,5 +1,5 @@
 use Rattle.std.proofs.Common.{◌≤◌, length, sym, ◌∙◌, arith}
-use Rattle.rel_top.proofs.Obligations.{zero_is, look_up_none, Passed}
+use Rattle.rel_top.proofs.Obligations.{zero_is, look_up_none}
 use Rattle.rel_top.proofs.obligation.Terms.of.Goals as goal
 
 pub returns-else-i-len : goal.returns-else-i-len

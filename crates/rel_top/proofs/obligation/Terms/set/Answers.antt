@@ -1,6 +1,6 @@
-use Rattle.std.proofs.Common.{◌≡◌, ◌<◌, ◌≤◌, length, get_or, sym, ◌∙◌, arith}
+use Rattle.std.proofs.Common.{◌≡◌, ◌<◌, ◌≤◌, length, get_or, sym, arith}
 use Rattle.rel_logic.specs.View.{trm_of}
-use Rattle.rel_top.proofs.Obligations.{with_term_at, with_term_none, Passed}
+use Rattle.rel_top.proofs.Obligations.{with_term_at, with_term_none}
 use Rattle.rel_top.proofs.obligation.Terms.set.Goals as goal
 
 pub returns-then-i-len : goal.returns-then-i-len
