@@ -10,3 +10,4 @@ pub mod FormsLists
 pub mod FormsScope
 pub mod FormsShape
 pub mod FormsUnit
+pub mod Obligations

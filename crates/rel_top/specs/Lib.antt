@@ -3,3 +3,4 @@ pub mod Obligation
 pub mod ProofFile
 pub mod Report
 pub mod Parts
+pub mod Scope

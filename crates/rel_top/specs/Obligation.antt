@@ -92,10 +92,10 @@ module _ (k : Parts) where
   abbrev pub obligation_of : Sqt
   obligation_of = record {
     sorts =
-      replicate left_alloc int_sort
-      ++ rgn_sort ∷ replicate (length k.right.globals) int_sort
-      ++ rgn_sort ∷ bij_sort ∷ replicate (block_len left_block + block_len right_block) int_sort;
+        replicate left_alloc int_sort
+        ++ rgn_sort ∷ replicate (length k.right.globals) int_sort
+        ++ rgn_sort ∷ bij_sort ∷ replicate (block_len left_block + block_len right_block) int_sort;
     hyps =
-      inside bijection left_alloc right_alloc ∷ relation_of left_start right_start k.judgement.needs.formula ∷ left_walk.hyps ++ right_walk.hyps;
+        inside bijection left_alloc right_alloc ∷ relation_of left_start right_start k.judgement.needs.formula ∷ left_walk.hyps ++ right_walk.hyps;
     goal = relation_of left_walk.store right_walk.store k.judgement.gives.formula;
   }
