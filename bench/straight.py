@@ -94,8 +94,9 @@ def run(program, folder):
     _, status, usage = os.wait4(child, 0)
     seconds = time.monotonic() - start
     said = read(lines)
-    if os.waitstatus_to_exitcode(status) != 0 or not said.endswith("yes: 3 items, 1 obligations\n"):
-        sys.exit("status %d: %s" % (os.waitstatus_to_exitcode(status), said))
+    status = os.waitstatus_to_exitcode(status)
+    if status != 0 or not said.endswith("yes: 3 items, 1 obligations\n"):
+        sys.exit("this is no yes: status %d, and the output is %r" % (status, said))
     return seconds, usage.ru_maxrss
 
 
