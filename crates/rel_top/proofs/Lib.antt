@@ -1,0 +1,3 @@
+pub mod Weigh
+pub mod Stable
+pub mod Sound

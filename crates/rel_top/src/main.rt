@@ -1,0 +1,12 @@
+//! A stub of the program.
+#![tactic(auto)]
+
+mod law;
+mod step;
+
+use std::io;
+
+fn main(rt: HostRuntime) -> io::Result<()> {
+    law::accepted_is_valid();
+    Ok(())
+}
