@@ -78,7 +78,7 @@ module _ (r : Valuation) where
                 ∙ ap₂ (λ p q. p +ℤ q) (difference_value t u l.1 l.2 h) (valued_number numbers n (pos 1)))))
     formula_value sorts (no (lt t u)) k l h holds =
         at_most k (bounded_form (no (lt t u)))
-            (sign k _ l.0 (not_less (number_of t) (number_of u) _ holds (difference_value u t l.2 l.1 (omega arith))))
+            (sign k _ l.0 (not_less (number_of t) (number_of u) _ holds (difference_value u t l.1 l.2 (omega arith))))
     formula_value sorts f k l h holds = absurd l
 
     pair_value : (sorts : List Srt) (forms : List Fml) → All (IsTrueAt r []) forms → All (λ f. top_fml f ≤ n) forms

@@ -51,18 +51,33 @@ IsLinear (int z) = FitsI128 (form_of (int z))
 IsLinear (add t u) = IsLinear t × IsLinear u × FitsI128 (form_of (add t u))
 IsLinear (sub t u) = IsLinear t × IsLinear u × FitsI128 (form_of (sub t u))
 
--- the form that is at most 0 where the formula is true
+-- t - u and t - u + 1
+abbrev pub difference : Trm → Trm → Linear
+difference t u = minus (form_of t) (form_of u)
+
+abbrev pub next_difference : Trm → Trm → Linear
+next_difference t u = plus (difference t u) (number_form (pos 1))
+
+-- the form that is at most 0 where the formula is true, or where it is false
+abbrev pub negation_form : Fml → Linear
+negation_form (lt t u) = difference u t
+negation_form _ = number_form (pos 0)
+
 abbrev pub bounded_form : Fml → Linear
-bounded_form (eq t u) = minus (form_of t) (form_of u)
-bounded_form (lt t u) = plus (minus (form_of t) (form_of u)) (number_form (pos 1))
-bounded_form (no (lt t u)) = minus (form_of u) (form_of t)
+bounded_form (eq t u) = difference t u
+bounded_form (lt t u) = next_difference t u
+bounded_form (no f) = negation_form f
 bounded_form _ = number_form (pos 0)
 
 -- the formula has such a form, which fits, and may be taken k times
+abbrev pub IsUsableNegation : Fml → ℤ → Type 0
+IsUsableNegation (lt t u) k = (pos 0 ≤ℤ k) × IsLinear u × IsLinear t × FitsI128 (difference u t)
+IsUsableNegation _ k = ⊥
+
 abbrev pub IsUsable : List Srt → Fml → ℤ → Type 0
-IsUsable sorts (eq t u) k = (term_sort sorts t ≡ Some int_sort) × (term_sort sorts u ≡ Some int_sort) × IsLinear t × IsLinear u × FitsI128 (bounded_form (eq t u))
-IsUsable sorts (lt t u) k = (pos 0 ≤ℤ k) × IsLinear t × IsLinear u × FitsI128 (bounded_form (lt t u))
-IsUsable sorts (no (lt t u)) k = (pos 0 ≤ℤ k) × IsLinear t × IsLinear u × FitsI128 (bounded_form (no (lt t u)))
+IsUsable sorts (eq t u) k = (term_sort sorts t ≡ Some int_sort) × (term_sort sorts u ≡ Some int_sort) × IsLinear t × IsLinear u × FitsI128 (difference t u)
+IsUsable sorts (lt t u) k = (pos 0 ≤ℤ k) × IsLinear t × IsLinear u × FitsI128 (next_difference t u)
+IsUsable sorts (no f) k = IsUsableNegation f k
 IsUsable sorts _ k = ⊥
 
 -- a pair names a formula by its number, and how many times its form is taken

@@ -2,6 +2,7 @@
 #![tactic(auto)]
 
 mod law;
+mod linear;
 mod step;
 
 use std::io;
