@@ -2,3 +2,5 @@ pub mod Weigh
 pub mod Stable
 pub mod Sound
 pub mod Combine
+pub mod TermForms
+pub mod NextForms

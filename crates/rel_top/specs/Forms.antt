@@ -9,7 +9,7 @@ use Rattle.rel_top.specs.declared.linear.Form.{Form}
 use Rattle.rel_top.specs.declared.linear.Change.{Change}
 use Rattle.rel_top.specs.declared.linear.Change.TheVariants.{Add, Subtract, AddTimes}
 use Rattle.rel_logic.specs.Syntax.{Srt, Trm, Fml, Nod}
-use Rattle.rel_top.specs.Linear.{Linear, FitsI128, form_of, IsLinear, difference, next_difference, plus, negation_form, IsUsableNegation, bounded_form, IsUsable, form_at, IsUsableAt, Pair, product, IsGoodPair}
+use Rattle.rel_top.specs.Linear.{Linear, FitsI128, form_of, IsLinear, difference, next_difference, plus, minus, number_form, negation_form, IsUsableNegation, bounded_form, IsUsable, form_at, IsUsableAt, Pair, product, IsGoodPair}
 
 -- an absent coefficient is 0
 abbrev pub coefficient_at : BTreeMap ℕ ℤ → ℕ → ℤ
@@ -41,6 +41,13 @@ change_form how a c = record { constant = change how a.constant c.constant; coef
 
 abbrev pub CanChangeForm : Change → Linear → Linear → Type 0
 CanChangeForm how a c = CanChange how a.constant c.constant × CanChangeEach how a.coefficient c.coefficient
+
+abbrev pub next_linear : Linear → Linear → Linear
+next_linear a c = plus (minus a c) (number_form (pos 1))
+
+abbrev pub FitsIfAny : Option Form → Type 0
+FitsIfAny None = Unit {0}
+FitsIfAny (Some f) = FitsI128 (linear f)
 
 -- two forms joined, where there are both and the numbers on the way fit
 abbrev pub IsJoined : Change → Option Form → Option Form → Option Form → Type 0
