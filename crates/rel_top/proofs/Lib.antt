@@ -4,3 +4,4 @@ pub mod Sound
 pub mod Combine
 pub mod TermForms
 pub mod NextForms
+pub mod Sums

@@ -286,3 +286,18 @@ fn next_sum(alloc: Global, node: &Node, sum: Form, i: u32, k: i128) -> Result<Op
         Some(form) => combined(sum, Change::AddTimes(k), &form),
     }
 }
+
+/// Whether the pairs' formulas, each taken as often as its pair says, have a sum that is a constant above 0.
+pub fn is_good_sum(alloc: Global, node: &Node, pairs: &List<(u32, i128)>) -> Result<bool, Memory>
+    ensures { IfOk result (λ b. IsTrue b ↔ IsGoodSum (node_of node.now) pairs.now) }
+{
+    let items = pairs.as_slice();
+    let mut sum = number_form(alloc, 0);
+    for (i, k) in items {
+        match next_sum(alloc, node, sum, *i, *k)? {
+            None => return Ok(false),
+            Some(next) => sum = next,
+        }
+    }
+    Ok(is_above_zero(&sum))
+}
