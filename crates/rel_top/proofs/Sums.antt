@@ -2,7 +2,9 @@
 use Rattle.std.proofs.Common.{◌≡◌, ◌↔◌, ℕ, suc, ℤ, pos, ◌+◌, ◌≤◌, ◌<◌, ◌⊎◌, ◌+ℤ◌, ◌<ℤ◌, List, [], ◌∷◌, ◌++◌, length, get_or, take, All, Bool, true, false, IsTrue, Some, None, SFits, lit<, refl, sym, ap, subst, ◌∙◌, ⊎_elim, inl, inr, take_all, arith}
 use Rattle.std.specs.Int.{w128}
 use Rattle.std.proofs.Math.IntN.{+ℤ_idl, +ℤ_idr, +ℤ_assoc}
-use Rattle.std.proofs.Math.Seq.{take_more}
+use Rattle.std.proofs.Math.Nat.{eq-or-lt_of_le}
+use Rattle.std.proofs.lemmas.Bool.{cases_lt}
+use Rattle.std.proofs.lemmas.List.{take_more}
 use Rattle.std.proofs.lemmas.List.Elements.{All-nil, All-push, All-take}
 use Rattle.rel_logic.specs.Syntax.{Fml, Nod}
 use Rattle.rel_top.specs.declared.linear.Form.{Form}
@@ -53,7 +55,7 @@ module _ (n : Nod) (ps : List Pair) (m : ℕ) (sum : Linear) (so_far : Summed n 
     }
       where
         last : (j : ℕ) → j ≤ m + 1 → (j ≤ m) ⊎ (j ≡ m + 1)
-        last j le = ?
+        last j le = ⊎_elim inr (λ below. inl (omega arith)) (eq-or-lt_of_le le)
 
     pub summed_bad : IsNextSum n sum (get_or ps m d) None → ¬ (IsGoodSum n ps)
     summed_bad h good = h (good.pairs m d within, subst FitsI128 one_more (good.prefixes (m + 1)))
@@ -68,7 +70,7 @@ module _ (n : Nod) (ps : List Pair) (m : ℕ) (sum : Linear) (so_far : Summed n 
         (
           λ yes. let above = h.0 yes in record {
             pairs = subst (All (IsGoodPair n)) all_pairs so_far.pairs;
-            prefixes = λ j. ?;
+            prefixes = λ j. ⊎_elim (λ below. so_far.prefixes j (omega arith)) (λ above. subst (λ xs. FitsI128 (sum_of n.forms xs)) (all_pairs ∙ sym (take_all j ps (omega arith))) (so_far.prefixes m (omega arith))) (cases_lt j m);
             above = subst (λ s. pos 0 <ℤ s.constant) e above.0;
             no_variable = λ v. subst (λ s. s.coefficient v ≡ pos 0) e (above.1 v);
           },

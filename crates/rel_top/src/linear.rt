@@ -165,7 +165,7 @@ fn is_int_variable(sorts: &List<Sort>, n: u32) -> bool
 }
 
 /// Whether the term is one of sort Int over the variables of these sorts.
-fn is_int(sorts: &List<Sort>, t: &Term) -> bool
+pub fn is_int(sorts: &List<Sort>, t: &Term) -> bool
     ensures { IsTrue result ↔ (term_sort (map sort_of sorts.now) (trm_of t.now) ≡ Some int_sort) }
 {
     match t {

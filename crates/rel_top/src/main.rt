@@ -1,6 +1,7 @@
 //! A stub of the program.
 #![tactic(auto)]
 
+mod checker;
 mod law;
 mod linear;
 mod step;

@@ -1,7 +1,9 @@
 use Rattle.std.proofs.Common.{◌≡◌, ℕ, pos, ◌+ℤ◌, refl, sym, ap, ◌∙◌, subst, SFits, rules, to_z, of_z, to_z-of_z, lit<}
 use Rattle.std.specs.Int.{w128}
+use Rattle.std.proofs.Math.IntN.{+ℤ_idl}
+use Rattle.rel_top.specs.Forms.{coefficient_at}
 use Rattle.rel_top.specs.declared.linear.Change.TheVariants.{Add}
-use Rattle.rel_top.proofs.Combine.{Progress, Entries, at_first, goes_on}
+use Rattle.rel_top.proofs.Combine.{Progress, Entries, at_first, goes_on, ends}
 use Rattle.rel_top.proofs.linear.is_zero.Goals as goal
 
 pub returns-then-number-ne0 : goal.returns-then-number-ne0
@@ -17,3 +19,8 @@ loop-number-preserved c =
     let zero : c.in-Some.number.now ≡ pos 0 = sym (to_z-of_z f) ∙ ap (to_z w128) c.if-number-ne0.false in
     goes_on Add _ _ _ c.in-Some.field-0-0.now c.in-Some.number.now _ p (λ v. pos 0)
         (sym (ap (λ z. pos 0 +ℤ z) zero)) (subst (λ z. SFits w128 (pos 0 +ℤ z)) (sym zero) (record { sfits = lit< tt })) (λ w h. refl)
+
+pub returns : goal.returns
+returns c =
+    let p = subst (λ (rest : Entries). Progress Add (λ v. pos 0) (λ v. pos 0) c.args.coefficients.now.entries rest) c.in-None.ensures.steps.0 c.loop-number.invariant in
+    (λ yes v. sym (+ℤ_idl (coefficient_at c.args.coefficients.now v)) ∙ sym (ends Add _ _ _ p v).0, λ all. refl)
