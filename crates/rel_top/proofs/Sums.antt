@@ -43,6 +43,9 @@ sum_push forms (q ∷ ps) p =
     e ∙ ap (plus a) (sum_push forms ps p)
 
 module _ (n : Nod) (ps : List Pair) (m : ℕ) (sum : Linear) (so_far : Summed n ps m sum) where
+  pub fits_sum : FitsI128 sum
+  fits_sum = subst FitsI128 (sym so_far.is_sum) (so_far.prefixes m (omega arith))
+
   module _ (d : Pair) (within : m < length ps) where
     one_more : sum_of n.forms (take (m + 1) ps) ≡ plus sum (product n.forms (get_or ps m d))
     one_more = ap (sum_of n.forms) (take_more ps m d within) ∙ sym (sum_push n.forms (take m ps) (get_or ps m d)) ∙ ap (λ s. plus s (product n.forms (get_or ps m d))) (sym so_far.is_sum)

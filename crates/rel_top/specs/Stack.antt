@@ -1,9 +1,8 @@
 -- The stack of nodes that a checker stands for, and what its calls answer.
 use Rattle.std.specs.Prelude.{◌≡◌, ℕ, ◌<◌, List, [], ◌∷◌, map, reverse, take, length, slice_get, Some, None, Option, Result, Ok, Err}
 use Rattle.rel_logic.specs.declared.sequent.Node.{Node}
-use Rattle.rel_logic.specs.declared.term.Term.{Term}
-use Rattle.rel_logic.specs.Syntax.{Fml, Trm, lt, Sqt, Nod}
-use Rattle.rel_logic.specs.View.{trm_of, node_of}
+use Rattle.rel_logic.specs.Syntax.{Trm, int_sort, eq, no, Sqt, Nod}
+use Rattle.rel_logic.specs.View.{node_of}
 use Rattle.rel_logic.specs.Truth.{IsValid}
 use Rattle.rel_top.specs.declared.step.Step.{Step}
 use Rattle.rel_top.specs.declared.checker.Checker.{Checker}
@@ -11,7 +10,8 @@ use Rattle.rel_top.specs.declared.checker.StepFault.{StepFault}
 use Rattle.rel_top.specs.declared.checker.StepFault.TheVariants as Fault
 use Rattle.rel_top.specs.declared.checker.Verdict.{Verdict}
 use Rattle.rel_top.specs.declared.checker.Verdict.TheVariants.{Accepted, BadStep, OpenNodes}
-use Rattle.rel_top.specs.Rules.{SplitsAt, child, Moves, Runs, first_stack, IsAccepted}
+use Rattle.rel_top.specs.Linear.{term_sort}
+use Rattle.rel_top.specs.Rules.{Moves, Runs, first_stack, IsAccepted}
 
 -- the last node is on top
 abbrev pub stacked : List Node → List Nod
@@ -30,9 +30,11 @@ IsStepAnswer before step (Ok u) after = Moves before step after
 IsStepAnswer before step (Err Fault.Bad) after = (after ≡ before) × IsStuck before step
 IsStepAnswer before step (Err Fault.Memory) after = after ≡ before
 
--- the two terms of a formula that says that they differ, if formula i is one
-abbrev pub differing : Trm → Trm → List (List Fml)
-differing t u = (lt t u ∷ []) ∷ (lt u t ∷ []) ∷ []
+-- formula i says that two terms of sort Int differ
+pub record DiffersAt (n : Nod) (i : ℕ) (t u : Trm) : Type 0 where
+  pub formula : slice_get n.forms i ≡ Some (no (eq t u))
+  pub left_int : term_sort n.sorts t ≡ Some int_sort
+  pub right_int : term_sort n.sorts u ≡ Some int_sort
 
 -- the steps before number k are good, and this one is not
 pub record IsBadStep (q : Sqt) (steps : List Step) (k : ℕ) : Type 0 where
