@@ -5,3 +5,4 @@ pub mod Combine
 pub mod TermForms
 pub mod NextForms
 pub mod Sums
+pub mod Stacks

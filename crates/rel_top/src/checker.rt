@@ -164,9 +164,9 @@ impl Checker {
             return Err(StepFault::Memory);
         };
         let top = self.nodes.len() - 1;
-        if self.nodes.push(first).is_err() {
+        let Ok(()) = self.nodes.push(first) else {
             return Err(StepFault::Memory);
-        }
+        };
         self.nodes[top] = second;
         Ok(())
     }
