@@ -24,8 +24,7 @@ module _ (a c : Form) (constant : ℤ) (m : BTreeMap ℕ ℤ) where
       → (linear (record { constant = constant; coefficients = m }) ≡ next_linear (linear a) (linear c)) × FitsI128 (next_linear (linear a) (linear c))
   next_made done first each is_done =
       let all = subst (λ b. MatchBool b (ChangesEach Subtract (coefficient_at a.coefficients) (coefficient_at c.coefficients) (coefficient_at m)) (¬ (CanChangeEach Subtract (coefficient_at a.coefficients) (coefficient_at c.coefficients)))) is_done each in
-      let number = λ (v : ℕ). coefficient_at a.coefficients v -ℤ coefficient_at c.coefficients v in
-      (
+      let number = λ (v : ℕ). coefficient_at a.coefficients v -ℤ coefficient_at c.coefficients v in (
         λ i. record { constant = first.0 i; coefficient = λ v. ((all v).0 ∙ sym (+ℤ_idr (number v))) i },
         (first.1, λ v. subst (SFits w128) (sym (+ℤ_idr (number v))) (all v).1),
       )

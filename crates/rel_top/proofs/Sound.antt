@@ -73,12 +73,12 @@ module _ (r : Valuation) where
         at_most k (bounded_form (eq t u)) (nothing k _ (difference_value t u l.2 l.3 h ∙ none_less _ _ (ap as_number holds)))
     formula_value sorts (lt t u) k l h holds =
         at_most k (bounded_form (lt t u))
-            (sign k _ l.0 (less (number_of t) (number_of u) _ holds
-                (valued_plus numbers n (minus (form_of t) (form_of u)) (number_form (pos 1))
-                ∙ ap₂ (λ p q. p +ℤ q) (difference_value t u l.1 l.2 h) (valued_number numbers n (pos 1)))))
+        (sign k _ l.0 (less (number_of t) (number_of u) _ holds
+        (valued_plus numbers n (minus (form_of t) (form_of u)) (number_form (pos 1))
+        ∙ ap₂ (λ p q. p +ℤ q) (difference_value t u l.1 l.2 h) (valued_number numbers n (pos 1)))))
     formula_value sorts (no (lt t u)) k l h holds =
         at_most k (bounded_form (no (lt t u)))
-            (sign k _ l.0 (not_less (number_of t) (number_of u) _ holds (difference_value u t l.1 l.2 (omega arith))))
+        (sign k _ l.0 (not_less (number_of t) (number_of u) _ holds (difference_value u t l.1 l.2 (omega arith))))
     formula_value sorts f k l h holds = absurd l
 
     pair_value : (sorts : List Srt) (forms : List Fml) → All (IsTrueAt r []) forms → All (λ f. top_fml f ≤ n) forms
@@ -100,8 +100,8 @@ module _ (r : Valuation) where
     sum_value d all tops [] good = zero_value _ (valued_number numbers n (pos 0))
     sum_value d all tops (p ∷ ps) good =
         both _ _ _ (pair_value d.sorts d.forms all tops p.0 p.1 (slice_get d.forms p.0) refl (All-head (IsGoodPair d) p ps good).0)
-            (sum_value d all tops ps (All-tail (IsGoodPair d) p ps good))
-            (valued_plus numbers n (product d.forms p) (sum_of d.forms ps))
+        (sum_value d all tops ps (All-tail (IsGoodPair d) p ps good))
+        (valued_plus numbers n (product d.forms p) (sum_of d.forms ps))
 
   int_value : (sorts : List Srt) → FitsSorts sorts r → (t : Trm) → term_sort sorts t ≡ Some int_sort → value r [] t ≡ number (number_of t)
   int_value sorts fits (var v) e = let h = fits v int_sort e in h.1 ∙ ap number (sym (ap as_number h.1))
@@ -129,7 +129,7 @@ farkas_refutes : (d : Nod) (ps : List Pair) → IsGoodSum d ps → IsRefuted d
 farkas_refutes d ps good r fits all =
     let n = top_forms d.forms in
     above_zero _ _ (sum_value r n d all (top_all d.forms) ps good.pairs)
-        (valued_constant (numbers r) n (sum_of d.forms ps) good.no_variable) good.above
+    (valued_constant (numbers r) n (sum_of d.forms ps) good.no_variable) good.above
 
 no_lower : (a b : ℤ) → a ≤ℤ b → b ≤ℤ a → a ≡ b
 no_lower a b h g = omega (arith, ints)
@@ -141,10 +141,10 @@ neint_refutes d i children s h r fits all =
     let refuted = subst (λ cs. AllRefuted (map (child d) cs)) s.added h in
     let differ = subst (λ g. IsTrueAt r [] g) (get_or_from_slice_get d.forms i _ _ s.formula) (all i (no (eq t u)) (slice_get_within d.forms i _ s.formula)) in
     by_lt_z (number_of r t) (number_of r u)
-        (λ lower. refuted.0 r fits (All-push (IsTrueAt r []) d.forms (lt t u) all lower))
-        (λ above. by_lt_z (number_of r u) (number_of r t)
-            (λ lower. refuted.1.0 r fits (All-push (IsTrueAt r []) d.forms (lt u t) all lower))
-            (λ below. differ (int_value r d.sorts fits t s.left_int ∙ ap number (no_lower _ _ below above) ∙ sym (int_value r d.sorts fits u s.right_int))))
+    (λ lower. refuted.0 r fits (All-push (IsTrueAt r []) d.forms (lt t u) all lower))
+    (λ above. by_lt_z (number_of r u) (number_of r t)
+    (λ lower. refuted.1.0 r fits (All-push (IsTrueAt r []) d.forms (lt u t) all lower))
+    (λ below. differ (int_value r d.sorts fits t s.left_int ∙ ap number (no_lower _ _ below above) ∙ sym (int_value r d.sorts fits u s.right_int))))
 
 step_refutes : (d : Nod) (s : Step) (children : List (List Fml)) → GoodStep d s children → AllRefuted (map (child d) children) → IsRefuted d
 step_refutes d (Neint i) children good h = neint_refutes d i children good h

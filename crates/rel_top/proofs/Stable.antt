@@ -67,13 +67,13 @@ same_bijection : (a b : Bij) → ¬ ¬ (a ≡ b) → a ≡ b
 same_bijection a b h =
     let pairs : a.pairs ≡ b.pairs = same_pairs a.pairs b.pairs (λ differ. h (λ e. differ (ap (λ p. p.pairs) e))) in
     subst (λ q. (g : IsOneToOne q) → a ≡ record { pairs = q; one_to_one = g }) pairs
-        (λ g i. record { pairs = a.pairs; one_to_one = one_to_one_prop a.pairs a.one_to_one g i }) b.one_to_one
+    (λ g i. record { pairs = a.pairs; one_to_one = one_to_one_prop a.pairs a.one_to_one g i }) b.one_to_one
 
 same_map : {V : Type 0} (default : V) → ((a b : V) → ¬ ¬ (a ≡ b) → a ≡ b) → (m n : MapTo V default) → ¬ ¬ (m ≡ n) → m ≡ n
 same_map {V} default same m n h =
     let values : m.at ≡ n.at = λ i r. same (m.at r) (n.at r) (λ differ. h (λ e. differ (ap (λ k. k.at r) e))) i in
     subst (λ f. (q : ∥ IsFinite default f ∥₁) → m ≡ record { at = f; is_finite = q }) values
-        (λ q i. record { at = m.at; is_finite = squash₁ m.is_finite q i }) n.is_finite
+    (λ q i. record { at = m.at; is_finite = squash₁ m.is_finite q i }) n.is_finite
 
 abbrev as_map_int : MapTo ℤ (pos 0) → Elem → MapTo ℤ (pos 0)
 as_map_int d (map_int m) = m

@@ -69,8 +69,7 @@ module _ (n : Nod) (ps : List Pair) (m : ℕ) (sum : Linear) (so_far : Summed n 
 
     pub summed_all : (b : Bool) → (IsTrue b ↔ ((pos 0 <ℤ sum.constant) × ((v : ℕ) → sum.coefficient v ≡ pos 0))) → (IsTrue b ↔ IsGoodSum n ps)
     summed_all b h =
-        let e : sum ≡ sum_of n.forms ps = so_far.is_sum ∙ ap (sum_of n.forms) all_pairs in
-        (
+        let e : sum ≡ sum_of n.forms ps = so_far.is_sum ∙ ap (sum_of n.forms) all_pairs in (
           λ yes. let above = h.0 yes in record {
             pairs = subst (All (IsGoodPair n)) all_pairs so_far.pairs;
             prefixes = λ j. ⊎_elim (λ below. so_far.prefixes j (omega arith)) (λ above. subst (λ xs. FitsI128 (sum_of n.forms xs)) (all_pairs ∙ sym (take_all j ps (omega arith))) (so_far.prefixes m (omega arith))) (cases_lt j m);

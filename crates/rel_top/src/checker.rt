@@ -55,10 +55,8 @@ fn with_form(node: &Node, form: Fol) -> Result<Node, Memory>
 
 /// The sides of an equation.
 fn sides(f: &Fol) -> Option<(&Term, &Term)>
-    ensures {
-        let formula = fml_of f.now in
-        MatchOption result ((t u : Trm) → formula ≢ eq t u) (λ p. formula ≡ eq (trm_of p.0.now) (trm_of p.1.now))
-    }
+    ensures { let formula = fml_of f.now in
+        MatchOption result ((t u : Trm) → formula ≢ eq t u) (λ p. formula ≡ eq (trm_of p.0.now) (trm_of p.1.now)) }
 {
     match f {
         Fol::Eq(t, u) => Some((t, u)),
@@ -68,10 +66,8 @@ fn sides(f: &Fol) -> Option<(&Term, &Term)>
 
 /// The two terms of a formula that says that they differ.
 fn unequal_terms(f: &Fol) -> Option<(&Term, &Term)>
-    ensures {
-        let formula = fml_of f.now in
-        MatchOption result ((t u : Trm) → formula ≢ no (eq t u)) (λ p. formula ≡ no (eq (trm_of p.0.now) (trm_of p.1.now)))
-    }
+    ensures { let formula = fml_of f.now in
+        MatchOption result ((t u : Trm) → formula ≢ no (eq t u)) (λ p. formula ≡ no (eq (trm_of p.0.now) (trm_of p.1.now))) }
 {
     match f {
         Fol::Not(g) => sides(g.get()),
@@ -81,10 +77,8 @@ fn unequal_terms(f: &Fol) -> Option<(&Term, &Term)>
 
 /// The two terms of sort Int of which formula `i` says that they differ.
 fn unequal_ints(node: &Node, i: u32) -> Option<(&Term, &Term)>
-    ensures {
-        let n = node_of node.now in
-        MatchOption result ((t u : Trm) → ¬ (DiffersAt n i t u)) (λ p. DiffersAt n i (trm_of p.0.now) (trm_of p.1.now))
-    }
+    ensures { let n = node_of node.now in
+        MatchOption result ((t u : Trm) → ¬ (DiffersAt n i t u)) (λ p. DiffersAt n i (trm_of p.0.now) (trm_of p.1.now)) }
 {
     let i = i as usize;
     if i >= node.forms.len() {
@@ -100,12 +94,10 @@ fn unequal_ints(node: &Node, i: u32) -> Option<(&Term, &Term)>
 
 /// The node with `t` below `u`, and the node with `u` below `t`.
 fn both_orders(node: &Node, t: &Term, u: &Term) -> Result<(Node, Node), Memory>
-    ensures {
-        let n = node_of node.now in
+    ensures { let n = node_of node.now in
         let a = trm_of t.now in
         let b = trm_of u.now in
-        IfOk result (λ p. (node_of p.0 ≡ child n (lt a b ∷ [])) × (node_of p.1 ≡ child n (lt b a ∷ [])))
-    }
+        IfOk result (λ p. (node_of p.0 ≡ child n (lt a b ∷ [])) × (node_of p.1 ≡ child n (lt b a ∷ []))) }
 {
     let first = with_form(node, Fol::Lt(t.copy()?, u.copy()?))?;
     let second = with_form(node, Fol::Lt(u.copy()?, t.copy()?))?;

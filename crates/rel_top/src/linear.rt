@@ -49,13 +49,15 @@ fn coefficient(coefficients: &BTreeMap<u32, i128>, variable: u32) -> i128
 
 /// Whether all of `a` could be changed. If not, `a` is of no use.
 #[tactic(auto, using(crate::proofs::Combine::combining))]
-fn change_all(a: &mut BTreeMap<u32, i128>, how: Change, c: &BTreeMap<u32, i128>) -> Result<bool, Memory>
+fn change_all(
+    a: &mut BTreeMap<u32, i128>,
+    how: Change,
+    c: &BTreeMap<u32, i128>,
+) -> Result<bool, Memory>
     requires { (v : ℕ) → FitsSigned w128 (coefficient_at a.old v) }
-    ensures {
-        let before = coefficient_at a.old in
+    ensures { let before = coefficient_at a.old in
         let other = coefficient_at c.now in
-        IfOk result (λ all. MatchBool all (ChangesEach how before other (coefficient_at a.new)) (¬ (CanChangeEach how before other)))
-    }
+        IfOk result (λ all. MatchBool all (ChangesEach how before other (coefficient_at a.new)) (¬ (CanChangeEach how before other))) }
 {
     for (variable, number) in c {
         match changed(how, coefficient(a, *variable), *number) {
@@ -71,11 +73,9 @@ fn change_all(a: &mut BTreeMap<u32, i128>, how: Change, c: &BTreeMap<u32, i128>)
 /// `a` changed by `c`, or `None` where a number on the way does not fit.
 pub fn combined(mut a: Form, how: Change, c: &Form) -> Result<Option<Form>, Memory>
     requires { FitsI128 (linear a) }
-    ensures {
-        let before = linear a in
+    ensures { let before = linear a in
         let other = linear c.now in
-        IfOk result (λ r. MatchOption r (¬ (CanChangeForm how before other)) (λ f. (linear f ≡ change_form how before other) × CanChangeForm how before other))
-    }
+        IfOk result (λ r. MatchOption r (¬ (CanChangeForm how before other)) (λ f. (linear f ≡ change_form how before other) × CanChangeForm how before other)) }
 {
     let Some(constant) = changed(how, a.constant, c.constant) else {
         return Ok(None);
@@ -84,7 +84,10 @@ pub fn combined(mut a: Form, how: Change, c: &Form) -> Result<Option<Form>, Memo
         return Ok(None);
     }
     let coefficients = a.coefficients;
-    Ok(Some(Form { constant, coefficients }))
+    Ok(Some(Form {
+        constant,
+        coefficients,
+    }))
 }
 
 /// Both forms joined, where there are both and the numbers on the way fit.
@@ -112,7 +115,10 @@ fn variable_form(alloc: Global, variable: u32) -> Result<Form, Memory>
 {
     let mut coefficients = BTreeMap::new(alloc);
     coefficients.insert(variable, 1)?;
-    Ok(Form { constant: 0, coefficients })
+    Ok(Form {
+        constant: 0,
+        coefficients,
+    })
 }
 
 #[cycle(term_form)]
@@ -125,7 +131,11 @@ fn term_form(alloc: Global, t: &Term) -> Result<Option<Form>, Memory>
         Term::Bound(_) => Ok(None),
         Term::Int(z) => Ok(Some(number_form(alloc, *z))),
         Term::Add(a, b) => joined(boxed_form(alloc, a)?, Change::Add, boxed_form(alloc, b)?),
-        Term::Sub(a, b) => joined(boxed_form(alloc, a)?, Change::Subtract, boxed_form(alloc, b)?),
+        Term::Sub(a, b) => joined(
+            boxed_form(alloc, a)?,
+            Change::Subtract,
+            boxed_form(alloc, b)?,
+        ),
     }
 }
 
@@ -146,10 +156,8 @@ fn difference(alloc: Global, t: &Term, u: &Term) -> Result<Option<Form>, Memory>
 
 /// `a - c + 1`, also where `a - c` alone does not fit.
 fn next_number(a: i128, c: i128) -> Option<i128>
-    ensures {
-        let next = (a -ℤ c) +ℤ pos 1 in
-        MatchOption result (¬ (FitsSigned w128 next)) (λ z. (z ≡ next) × FitsSigned w128 next)
-    }
+    ensures { let next = (a -ℤ c) +ℤ pos 1 in
+        MatchOption result (¬ (FitsSigned w128 next)) (λ z. (z ≡ next) × FitsSigned w128 next) }
 {
     match a.checked_add(1) {
         Some(more) => more.checked_sub(c),
@@ -177,10 +185,8 @@ pub fn is_int(sorts: &List<Sort>, t: &Term) -> bool
 
 /// Whether the form is a constant above 0.
 fn is_above_zero(form: &Form) -> bool
-    ensures {
-        let sum = linear form.now in
-        IsTrue result ↔ ((pos 0 <ℤ sum.constant) × ((v : ℕ) → sum.coefficient v ≡ pos 0))
-    }
+    ensures { let sum = linear form.now in
+        IsTrue result ↔ ((pos 0 <ℤ sum.constant) × ((v : ℕ) → sum.coefficient v ≡ pos 0)) }
 {
     form.constant > 0 && is_zero(&form.coefficients)
 }
@@ -212,10 +218,8 @@ fn next_difference(alloc: Global, t: &Term, u: &Term) -> Result<Option<Form>, Me
 /// `a - c + 1`, or `None` where it does not fit.
 fn next_form(mut a: Form, c: &Form) -> Result<Option<Form>, Memory>
     requires { FitsI128 (linear a) }
-    ensures {
-        let next = next_linear (linear a) (linear c.now) in
-        IfOk result (λ r. MatchOption r (¬ (FitsI128 next)) (λ f. (linear f ≡ next) × FitsI128 next))
-    }
+    ensures { let next = next_linear (linear a) (linear c.now) in
+        IfOk result (λ r. MatchOption r (¬ (FitsI128 next)) (λ f. (linear f ≡ next) × FitsI128 next)) }
 {
     let Some(constant) = next_number(a.constant, c.constant) else {
         return Ok(None);
@@ -224,7 +228,10 @@ fn next_form(mut a: Form, c: &Form) -> Result<Option<Form>, Memory>
         return Ok(None);
     }
     let coefficients = a.coefficients;
-    Ok(Some(Form { constant, coefficients }))
+    Ok(Some(Form {
+        constant,
+        coefficients,
+    }))
 }
 
 /// The form that is at most 0 where `f` is false, if it may be taken `k` times.
@@ -263,10 +270,8 @@ fn bounded_form(alloc: Global, sorts: &List<Sort>, f: &Fol, k: i128) -> Result<O
 
 /// The form of the node's formula number `i`.
 fn form_at(alloc: Global, node: &Node, i: u32, k: i128) -> Result<Option<Form>, Memory>
-    ensures {
-        let n = node_of node.now in
-        IfOk result (λ r. IsFormAt n.sorts (slice_get n.forms i) k r)
-    }
+    ensures { let n = node_of node.now in
+        IfOk result (λ r. IsFormAt n.sorts (slice_get n.forms i) k r) }
 {
     let i = i as usize;
     if i < node.forms.len() {

@@ -2,13 +2,12 @@
 #![tactic(auto)]
 
 mod checker;
-mod law;
 mod linear;
 mod step;
 
 use std::io;
 
 fn main(rt: HostRuntime) -> io::Result<()> {
-    law::accepted_is_valid();
+    let _alloc = rt.alloc();
     Ok(())
 }

@@ -13,7 +13,7 @@ loop-number-preserved c =
     let k = c.loop-number.number in
     let step = c.index-items-number.result in
     runs_next items k (first_stack (sequent_of c.args.sequent.now)) (stack_of c.loop-number.checker) (stack_of c.step.new.self) step
-        (slice_get_read items (length items) k step refl c.loop-number-test.true c.index-items-number.is) c.loop-number.invariant c.in-Ok.ensures
+    (slice_get_read items (length items) k step refl c.loop-number-test.true c.index-items-number.is) c.loop-number.invariant c.in-Ok.ensures
 
 pub returns-then-is_done : goal.returns-then-is_done
 returns-then-is_done c =
@@ -22,5 +22,5 @@ returns-then-is_done c =
     let all : take c.loop-number.number items ≡ c.args.steps.now = take_all c.loop-number.number items (omega arith) ∙ c.as_slice-items.ensures in
     let done : stack_of c.loop-number.checker ≡ [] = c.is_done.ensures.0 c.if-is_done.true in
     let accepted : IsAccepted q c.args.steps.now =
-        subst (λ s. Runs (first_stack q) c.args.steps.now s) done (subst (λ steps. Runs (first_stack q) steps (stack_of c.loop-number.checker)) all c.loop-number.invariant) in
+    subst (λ s. Runs (first_stack q) c.args.steps.now s) done (subst (λ steps. Runs (first_stack q) steps (stack_of c.loop-number.checker)) all c.loop-number.invariant) in
     (accepted, valid_from_accepted q c.args.steps.now accepted)

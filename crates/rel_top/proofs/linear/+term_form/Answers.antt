@@ -19,7 +19,7 @@ term_form-returns-in_ok-boxed_form-in-Add-2 t c =
     let g = c.in_ok-boxed_form-in-Add-2.field-0 in
     let e : trm_of c.args.t.now ≡ add (trm_of c.in-Add.a) (trm_of c.in-Add.b) = ap trm_of c.in-Add.is ∙ add_view c.in-Add.a c.in-Add.b in
     subst (λ s. IfOk c.joined.result (λ r. IsTermForm s r)) (sym e)
-        (IfOk-weaker c.joined.result (IsJoined Add f g) _ (λ r. add_form (trm_of c.in-Add.a) (trm_of c.in-Add.b) f g r c.in_ok-boxed_form-in-Add.ensures c.in_ok-boxed_form-in-Add-2.ensures) c.joined.ensures)
+    (IfOk-weaker c.joined.result (IsJoined Add f g) _ (λ r. add_form (trm_of c.in-Add.a) (trm_of c.in-Add.b) f g r c.in_ok-boxed_form-in-Add.ensures c.in_ok-boxed_form-in-Add-2.ensures) c.joined.ensures)
 
 pub term_form-returns-in_ok-boxed_form-in-Sub-2 : goal.term_form-returns-in_ok-boxed_form-in-Sub-2
 term_form-returns-in_ok-boxed_form-in-Sub-2 t c =
@@ -27,4 +27,4 @@ term_form-returns-in_ok-boxed_form-in-Sub-2 t c =
     let g = c.in_ok-boxed_form-in-Sub-2.field-0 in
     let e : trm_of c.args.t.now ≡ sub (trm_of c.in-Sub.a) (trm_of c.in-Sub.b) = ap trm_of c.in-Sub.is ∙ sub_view c.in-Sub.a c.in-Sub.b in
     subst (λ s. IfOk c.joined-in-Sub.result (λ r. IsTermForm s r)) (sym e)
-        (IfOk-weaker c.joined-in-Sub.result (IsJoined Subtract f g) _ (λ r. sub_form (trm_of c.in-Sub.a) (trm_of c.in-Sub.b) f g r c.in_ok-boxed_form-in-Sub.ensures c.in_ok-boxed_form-in-Sub-2.ensures) c.joined-in-Sub.ensures)
+    (IfOk-weaker c.joined-in-Sub.result (IsJoined Subtract f g) _ (λ r. sub_form (trm_of c.in-Sub.a) (trm_of c.in-Sub.b) f g r c.in_ok-boxed_form-in-Sub.ensures c.in_ok-boxed_form-in-Sub-2.ensures) c.joined-in-Sub.ensures)

@@ -21,9 +21,9 @@ loop-variable-preserved c =
     let made = simp to_z-of_z at c.in-Some-changed.ensures in
     let put = simp to_z-of_z at c.in_ok-insert-in-Some-changed.ensures.updates in
     goes_on c.args.how _ _ _ c.in-Some.variable.now c.in-Some.number.now _ p (coefficient_at c.insert.new.self)
-        (ap (λ (o : Option ℤ). unwrap_or o (pos 0)) put.1 ∙ made.0 ∙ ap (λ x. change c.args.how x c.in-Some.number.now) c.coefficient.ensures)
-        (subst (λ x. CanChange c.args.how x c.in-Some.number.now) c.coefficient.ensures made.1)
-        (λ w apart. ap (λ (o : Option ℤ). unwrap_or o (pos 0)) (put.2 w apart))
+    (ap (λ (o : Option ℤ). unwrap_or o (pos 0)) put.1 ∙ made.0 ∙ ap (λ x. change c.args.how x c.in-Some.number.now) c.coefficient.ensures)
+    (subst (λ x. CanChange c.args.how x c.in-Some.number.now) c.coefficient.ensures made.1)
+    (λ w apart. ap (λ (o : Option ℤ). unwrap_or o (pos 0)) (put.2 w apart))
 
 pub returns : goal.returns
 returns c = ends c.args.how _ _ _ (subst (λ (rest : Entries). Progress c.args.how (coefficient_at c.args.a.now) (coefficient_at c.loop-variable.a) c.args.c.now.entries rest) c.in-None.ensures.steps.0 c.loop-variable.invariant)

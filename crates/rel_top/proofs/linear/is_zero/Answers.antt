@@ -18,7 +18,7 @@ loop-number-preserved c =
     let f : SFits w128 c.in-Some.number.now = search rules in
     let zero : c.in-Some.number.now ≡ pos 0 = sym (to_z-of_z f) ∙ ap (to_z w128) c.if-number-ne0.false in
     goes_on Add _ _ _ c.in-Some.field-0-0.now c.in-Some.number.now _ p (λ v. pos 0)
-        (sym (ap (λ z. pos 0 +ℤ z) zero)) (subst (λ z. SFits w128 (pos 0 +ℤ z)) (sym zero) (record { sfits = lit< tt })) (λ w h. refl)
+    (sym (ap (λ z. pos 0 +ℤ z) zero)) (subst (λ z. SFits w128 (pos 0 +ℤ z)) (sym zero) (record { sfits = lit< tt })) (λ w h. refl)
 
 pub returns : goal.returns
 returns c =

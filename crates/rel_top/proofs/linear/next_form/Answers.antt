@@ -13,4 +13,4 @@ returns c =
     let made = simp to_z-of_z at c.in-Some.ensures in
     let done : c.in_ok-change_all.field-0 ≡ true = search rules in
     subst (λ z. (linear (record { constant = z; coefficients = c.change_all.new.a }) ≡ next_linear (linear c.args.a) (linear c.args.c.now)) × FitsI128 (next_linear (linear c.args.a) (linear c.args.c.now)))
-        (sym (to_z-of_z f)) (next_made c.args.a c.args.c.now c.in-Some.constant c.change_all.new.a c.in_ok-change_all.field-0 made c.in_ok-change_all.ensures done)
+    (sym (to_z-of_z f)) (next_made c.args.a c.args.c.now c.in-Some.constant c.change_all.new.a c.in_ok-change_all.field-0 made c.in_ok-change_all.ensures done)

@@ -18,4 +18,4 @@ returns c =
     let long : c.len-top.result ≡ length nodes = search rules in
     let after = with_item c.push.new.self (c.len-top.result - 1) c.in-Ok.second in
     split_moves nodes c.in-Some.top.now is_top c.in-Ok.first c.in-Ok.second after.items (λ j. set (pushed j) (long j - 1) c.in-Ok.second) c.args.i (trm_of c.in-Some-unequal_ints.t.now) (trm_of c.in-Some-unequal_ints.u.now)
-        c.in-Some-unequal_ints.ensures c.in-Ok.ensures.0 c.in-Ok.ensures.1
+    c.in-Some-unequal_ints.ensures c.in-Ok.ensures.0 c.in-Ok.ensures.1
