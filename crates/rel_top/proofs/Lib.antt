@@ -6,3 +6,4 @@ pub mod TermForms
 pub mod NextForms
 pub mod Sums
 pub mod Stacks
+pub mod Exact

@@ -2,7 +2,7 @@
 ghost use Rattle.std.specs.Prelude.{◌≡◌, ◌≢◌, ◌↔◌, ◌<◌, ◌^◌, [], ◌∷◌, length, IfOk, IsTrue, MatchOption};
 ghost use Rattle.rel_logic.specs.Syntax.{Trm, eq, lt, no};
 ghost use Rattle.rel_logic.specs.View.{trm_of, fml_of, sequent_of, node_of};
-ghost use Rattle.rel_top.specs.Rules.{child, first_stack};
+ghost use Rattle.rel_top.specs.Rules.{child, first_stack, IsAccepted};
 ghost use Rattle.rel_top.specs.Stack.{stack_of, DiffersAt, IsStepAnswer, IsVerdict};
 
 use crate::linear::{is_good_sum, is_int};
@@ -175,8 +175,7 @@ impl Checker {
     }
 }
 
-/// What the steps come to, from the node of the sequent.
-pub fn accepts(alloc: Global, sequent: &Sequent, steps: &List<Step>) -> Result<Verdict, Memory>
+fn verdict_of(alloc: Global, sequent: &Sequent, steps: &List<Step>) -> Result<Verdict, Memory>
     requires { length steps.now < 2 ^ 32 }
     ensures { IfOk result (λ v. IsVerdict (sequent_of sequent.now) steps.now v) }
 {
@@ -193,5 +192,74 @@ pub fn accepts(alloc: Global, sequent: &Sequent, steps: &List<Step>) -> Result<V
         Ok(Verdict::Accepted)
     } else {
         Ok(Verdict::OpenNodes(checker.pending() as u64))
+    }
+}
+
+/// What the steps come to, from the node of the sequent. Where they are accepted, it is valid.
+pub fn accepts(alloc: Global, sequent: &Sequent, steps: &List<Step>) -> Result<Verdict, Memory>
+    requires { length steps.now < 2 ^ 32 }
+    ensures verdict { IfOk result (λ v. IsVerdict (sequent_of sequent.now) steps.now v) }
+    ensures exact { IfOk result (λ v. (v ≡ Verdict.Accepted) ↔ IsAccepted (sequent_of sequent.now) steps.now) }
+{
+    verdict_of(alloc, sequent, steps)
+}
+
+#[cfg(test)]
+mod tests {
+    use super::*;
+    use rel_logic::term::Sort;
+    use std::test::Fail;
+
+    fn sum(alloc: Global, a: Term, b: Term) -> Result<Term, Memory> {
+        Ok(Term::Add(Boxed::new(alloc, a)?, Boxed::new(alloc, b)?))
+    }
+
+    /// `x + 1 = 1 + x`.
+    fn example(alloc: Global) -> Result<Sequent, Memory> {
+        let mut sorts = List::new(alloc);
+        sorts.push(Sort::Int)?;
+        let left = sum(alloc, Term::Var(0), Term::Int(1))?;
+        let right = sum(alloc, Term::Int(1), Term::Var(0))?;
+        Ok(Sequent {
+            sorts,
+            hyps: List::new(alloc),
+            goal: Fol::Eq(left, right),
+        })
+    }
+
+    fn once(alloc: Global, i: u32) -> Result<Step, Memory> {
+        let mut pairs = List::new(alloc);
+        pairs.push((i, 1))?;
+        Ok(Step::Farkas(pairs))
+    }
+
+    /// The first `count` steps of the example's derivation.
+    fn derivation(alloc: Global, count: usize) -> Result<List<Step>, Memory> {
+        let mut steps = List::new(alloc);
+        if count > 0 {
+            steps.push(Step::Neint(0))?;
+        }
+        for _ in 1..count {
+            steps.push(once(alloc, 1)?)?;
+        }
+        Ok(steps)
+    }
+
+    fn verdict_after(alloc: Global, count: usize) -> Result<Verdict, Memory> {
+        let steps = derivation(alloc, count)?;
+        if steps.len() < 5 {
+            accepts(alloc, &example(alloc)?, &steps)
+        } else {
+            Err(Memory)
+        }
+    }
+
+    #[test]
+    fn a_derivation_is_accepted_only_whole(rt: HostRuntime) -> Result<(), Fail> {
+        assert!(rt; verdict_after(rt.alloc(), 3)? == Verdict::Accepted);
+        assert!(rt; verdict_after(rt.alloc(), 2)? == Verdict::OpenNodes(1));
+        assert!(rt; verdict_after(rt.alloc(), 0)? == Verdict::OpenNodes(1));
+        assert!(rt; verdict_after(rt.alloc(), 4)? == Verdict::BadStep(3));
+        Ok(())
     }
 }
