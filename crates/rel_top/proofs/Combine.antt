@@ -1,13 +1,11 @@
 -- How far a loop over a map's entries has changed each number.
-use Rattle.std.proofs.Common.{◌≡◌, ◌≢◌, ◌⊎◌, ℕ, ℤ, pos, ◌+ℤ◌, ◌-ℤ◌, ◌*ℤ◌, Bool, true, false, cond, List, [], ◌∷◌, Option, Some, None, MatchOption, SFits, unwrap_or, refl, sym, ap, subst, subst₂, ◌∙◌, ⊎_elim, nat_cmp, is_eq, Less, Equal, Greater, rules, lit<}
-use Rattle.std.specs.BTreeMap as tree
-use Rattle.std.specs.BTreeMap.{BTreeMap, is_at}
+use Rattle.std.proofs.Common.{◌≡◌, ◌≢◌, ℕ, ℤ, pos, ◌+ℤ◌, true, false, cond, List, [], ◌∷◌, Option, Some, None, MatchOption, SFits, unwrap_or, refl, sym, ap, subst, subst₂, ◌∙◌, ⊎_elim, nat_cmp, is_eq, Less, Equal, Greater, lit<}
+use Rattle.std.specs.BTreeMap.{is_at}
 use Rattle.std.specs.Cmp.{nat_cmp_total, tied_itself, eq_by_cmp_equiv}
 use Rattle.std.specs.FinMap.{nat_cmp-IsAntisymmetric}
 use Rattle.std.specs.Int.{w128}
 use Rattle.std.specs.List.Sorted.{IsStrictlySortedBy}
 use Rattle.std.specs.Map.{keys_of, lookup}
-use Rattle.std.specs.Ordering.{eq_by_cmp}
 use Rattle.std.proofs.Math.IntN.{*ℤ-zero, +ℤ_idr}
 use Rattle.std.proofs.lemmas.Bool.{cases_eq}
 use Rattle.std.proofs.lemmas.Map.{lookup-none}
@@ -15,7 +13,7 @@ use Rattle.std.proofs.lemmas.Map.Entries.{none_past_head}
 use Rattle.std.proofs.lemmas.Map.Keys.{IsDistinct-from_sorted, sorted_tail}
 use Rattle.rel_top.specs.declared.linear.Change.{Change}
 use Rattle.rel_top.specs.declared.linear.Change.TheVariants.{Add, Subtract, AddTimes}
-use Rattle.rel_top.specs.Forms.{coefficient_at, change, CanChange, CanChangeEach, ChangesEach}
+use Rattle.rel_top.specs.Forms.{change, CanChange, CanChangeEach, ChangesEach}
 
 abbrev pub Entries : Type 0
 Entries = List (ℕ × ℤ)

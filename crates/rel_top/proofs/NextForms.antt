@@ -1,12 +1,12 @@
 -- The form of a difference and one more, and of a sum with one more pair.
-use Rattle.std.proofs.Common.{◌≡◌, ℕ, ℤ, pos, ◌+ℤ◌, ◌-ℤ◌, Bool, true, MatchBool, Option, Some, None, MatchOption, slice_get, SFits, sym, ap, subst, refl, ◌∙◌}
+use Rattle.std.proofs.Common.{◌≡◌, ℕ, ℤ, pos, ◌+ℤ◌, ◌-ℤ◌, Bool, true, MatchBool, Option, Some, None, MatchOption, slice_get, SFits, sym, ap, subst, ◌∙◌}
 use Rattle.std.specs.Int.{w128}
 use Rattle.std.specs.BTreeMap.{BTreeMap}
 use Rattle.std.proofs.Math.IntN.{+ℤ_idr}
 use Rattle.rel_logic.specs.Syntax.{Trm, Nod}
 use Rattle.rel_top.specs.declared.linear.Form.{Form}
 use Rattle.rel_top.specs.declared.linear.Change.TheVariants.{Subtract, AddTimes}
-use Rattle.rel_top.specs.Linear.{Linear, FitsI128, form_of, IsLinear, form_at}
+use Rattle.rel_top.specs.Linear.{Linear, FitsI128, form_of}
 use Rattle.rel_top.specs.Forms.{coefficient_at, linear, ChangesEach, CanChangeEach, change_form, CanChangeForm, next_linear, IsTermForm, IsNextDifference, IsFormAt, IsNextSum}
 
 pub next_forms : (t u : Trm) (f g : Form) (r : Option Form) → IsTermForm t (Some f) → IsTermForm u (Some g)

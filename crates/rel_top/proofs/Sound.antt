@@ -1,15 +1,15 @@
 -- A sequent with an accepted derivation is valid.
-use Rattle.std.proofs.Common.{◌≡◌, ℕ, suc, ◌+◌, ◌≤◌, ◌<◌, max, ℤ, pos, ◌+ℤ◌, ◌-ℤ◌, ◌*ℤ◌, ◌≤ℤ◌, ◌<ℤ◌, List, [], ◌∷◌, ◌++◌, map, length, get_or, slice_get, All, Option, Some, None, refl, sym, ap, ap₂, subst, ◌∙◌, arith}
+use Rattle.std.proofs.Common.{◌≡◌, ℕ, ◌+◌, ◌≤◌, max, ℤ, pos, ◌+ℤ◌, ◌-ℤ◌, ◌*ℤ◌, ◌≤ℤ◌, ◌<ℤ◌, List, [], ◌∷◌, ◌++◌, map, slice_get, All, Option, Some, None, refl, sym, ap, ap₂, subst, ◌∙◌, arith}
 use Rattle.std.proofs.lemmas.Int.{ints, by_lt_z}
-use Rattle.std.proofs.lemmas.List.Elements.{All-nil, All-cons, All-head, All-tail, All-append, All-push, All-weaker, All-get_or}
+use Rattle.std.proofs.lemmas.List.Elements.{All-nil, All-cons, All-head, All-tail, All-push, All-weaker}
 use Rattle.std.proofs.Math.IntN.{*ℤ-zero}
 use Rattle.std.proofs.lemmas.Option.{slice_get_within, get_or_from_slice_get}
-use Rattle.rel_logic.specs.Syntax.{Srt, int_sort, Trm, var, bound, int, add, sub, Fml, eq, lt, member, paired, no, and, imp, every, Sqt, Nod}
-use Rattle.rel_logic.specs.Truth.{Elem, number, as_number, Valuation, value, IsTrueAt, FitsSorts, IsValid}
+use Rattle.rel_logic.specs.Syntax.{Srt, int_sort, Trm, var, bound, int, add, sub, Fml, eq, lt, no, Sqt, Nod}
+use Rattle.rel_logic.specs.Truth.{number, as_number, Valuation, value, IsTrueAt, FitsSorts, IsValid}
 use Rattle.rel_top.specs.declared.step.Step.{Step}
 use Rattle.rel_top.specs.declared.step.Step.TheVariants.{Neint, Farkas}
-use Rattle.rel_top.specs.Linear.{Linear, number_form, variable_form, plus, minus, times, term_sort, form_of, IsLinear, bounded_form, IsUsable, Pair, form_at, IsUsableAt, product, IsGoodPair, sum_of, IsGoodSum}
-use Rattle.rel_top.specs.Rules.{SplitsAt, GoodStep, child, Moves, Runs, first_stack, IsAccepted}
+use Rattle.rel_top.specs.Linear.{Linear, number_form, minus, times, term_sort, form_of, IsLinear, bounded_form, IsUsable, Pair, form_at, IsUsableAt, product, IsGoodPair, sum_of, IsGoodSum}
+use Rattle.rel_top.specs.Rules.{SplitsAt, GoodStep, child, Runs, first_stack, IsAccepted}
 use Rattle.rel_top.proofs.Weigh.{sign, valued, valued_plus, valued_minus, valued_times, valued_number, valued_variable, valued_constant}
 use Rattle.rel_top.proofs.Stable.{stable}
 

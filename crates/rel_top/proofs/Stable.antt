@@ -1,5 +1,5 @@
 -- A formula that can't be false is true.
-use Rattle.std.proofs.Common.{◌≡◌, ℕ, ℤ, pos, ◌<ℤ◌, Bool, true, false, Decides, IsTrue, Option, Some, None, List, ◌∷◌, refl, sym, ap, subst, ◌∙◌, arith, rules}
+use Rattle.std.proofs.Common.{◌≡◌, ℤ, pos, ◌<ℤ◌, Bool, true, false, Decides, Some, None, List, ◌∷◌, refl, ap, subst, arith, rules}
 use Rattle.std.specs.Cmp.{IsTotalOrder}
 use Rattle.std.specs.Cmp.Rules.{comparing}
 use Rattle.std.specs.FinMap.{IsAntisymmetric}
@@ -10,11 +10,11 @@ use Rattle.std.specs.declared.cmp.Ordering.TheVariants.{Less, Equal, Greater}
 use Rattle.std.proofs.lemmas.Int.{ints, by_lt_z}
 use Rattle.std.proofs.Math.IntN.{ℤ_discrete}
 use native.Mathlib.Nat.{ℕ_set}
-use Rattle.rel_list.specs.References.{Obj, Ref, Region, is_in}
-use Rattle.rel_list.specs.Pairs.{Pair, pair_cmp, Pairs, has, IsOneToOne}
+use Rattle.rel_list.specs.References.{Ref, Region, is_in}
+use Rattle.rel_list.specs.Pairs.{pair_cmp, Pairs, has, IsOneToOne}
 use Rattle.rel_list.proofs.Sets.{obj_alone, same_ref_is, same_region_is}
-use Rattle.rel_logic.specs.Syntax.{Trm, Fml, eq, lt, member, paired, no, and, imp, every}
-use Rattle.rel_logic.specs.Truth.{IsFinite, MapTo, Bij, Elem, number, ref, rgn, map_int, map_ref, map_rgn, bij, as_number, as_ref, as_rgn, as_pairs, elem, Valuation, value, IsMember, ArePartners, IsTrueAt}
+use Rattle.rel_logic.specs.Syntax.{Fml, eq, lt, member, paired, no, and, imp, every}
+use Rattle.rel_logic.specs.Truth.{IsFinite, MapTo, Bij, Elem, number, ref, rgn, map_int, map_ref, map_rgn, bij, as_number, as_ref, as_rgn, elem, Valuation, value, IsMember, ArePartners, IsTrueAt}
 
 from_dec : {A : Type 0} → Dec A → ¬ ¬ A → A
 from_dec (Prim.yes a) h = a

@@ -1,13 +1,13 @@
 -- Stacks of nodes that are lists read from the end, and runs that go on.
-use Rattle.std.proofs.Common.{◌≡◌, ℕ, suc, ◌+◌, ◌-◌, ◌<◌, ◌≤◌, List, [], ◌∷◌, ◌++◌, length, map, reverse, take, set, get_or, slice_get, Option, Some, None, refl, sym, ap, subst, ◌∙◌, append_assoc, length-append, take_all, arith}
+use Rattle.std.proofs.Common.{◌≡◌, ℕ, ◌+◌, ◌-◌, ◌<◌, List, [], ◌∷◌, ◌++◌, length, map, reverse, take, set, slice_get, Some, refl, sym, ap, subst, ◌∙◌, append_assoc, length-append, take_all, arith}
 use Rattle.std.proofs.lemmas.List.{take_more, map-append, reverse-append}
 use Rattle.std.proofs.lemmas.Option.{slice_get_within, get_or_from_slice_get}
 use Rattle.rel_logic.specs.declared.sequent.Node.{Node}
-use Rattle.rel_logic.specs.Syntax.{Trm, Fml, eq, lt, no, Nod}
+use Rattle.rel_logic.specs.Syntax.{Trm, lt, Nod}
 use Rattle.rel_logic.specs.View.{node_of}
 use Rattle.rel_top.specs.declared.step.Step.{Step}
-use Rattle.rel_top.specs.declared.step.Step.TheVariants.{Neint, Farkas}
-use Rattle.rel_top.specs.Rules.{SplitsAt, child, Moves, Runs}
+use Rattle.rel_top.specs.declared.step.Step.TheVariants.{Neint}
+use Rattle.rel_top.specs.Rules.{child, Moves, Runs}
 use Rattle.rel_top.specs.Stack.{stacked, IsStuck, DiffersAt}
 
 stacked_push : (nodes : List Node) (n : Node) → stacked (nodes ++ n ∷ []) ≡ node_of n ∷ stacked nodes

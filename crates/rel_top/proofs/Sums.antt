@@ -1,11 +1,10 @@
 -- How far a loop over pairs has summed them.
-use Rattle.std.proofs.Common.{◌≡◌, ◌↔◌, ℕ, suc, ℤ, pos, ◌+◌, ◌≤◌, ◌<◌, ◌⊎◌, ◌+ℤ◌, ◌<ℤ◌, List, [], ◌∷◌, ◌++◌, length, get_or, take, All, Bool, true, false, IsTrue, Some, None, SFits, lit<, refl, sym, ap, subst, ◌∙◌, ⊎_elim, inl, inr, take_all, arith}
-use Rattle.std.specs.Int.{w128}
+use Rattle.std.proofs.Common.{◌≡◌, ◌↔◌, ℕ, pos, ◌+◌, ◌≤◌, ◌<◌, ◌⊎◌, ◌<ℤ◌, List, [], ◌∷◌, ◌++◌, length, get_or, take, All, Bool, IsTrue, Some, None, lit<, refl, sym, ap, subst, ◌∙◌, ⊎_elim, inl, inr, take_all, arith}
 use Rattle.std.proofs.Math.IntN.{+ℤ_idl, +ℤ_idr, +ℤ_assoc}
 use Rattle.std.proofs.Math.Nat.{eq-or-lt_of_le}
 use Rattle.std.proofs.lemmas.Bool.{cases_lt}
 use Rattle.std.proofs.lemmas.List.{take_more}
-use Rattle.std.proofs.lemmas.List.Elements.{All-nil, All-push, All-take}
+use Rattle.std.proofs.lemmas.List.Elements.{All-nil, All-push}
 use Rattle.rel_logic.specs.Syntax.{Fml, Nod}
 use Rattle.rel_top.specs.declared.linear.Form.{Form}
 use Rattle.rel_top.specs.Linear.{Linear, FitsI128, number_form, plus, Pair, product, IsGoodPair, sum_of, IsGoodSum}

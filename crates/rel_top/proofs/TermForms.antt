@@ -1,5 +1,5 @@
 -- The forms of terms, joined from those of their parts.
-use Rattle.std.proofs.Common.{◌≡◌, ℕ, ℤ, pos, Bool, true, false, if◌then◌else◌, ◌==◌, Option, Some, None, SFits, lit<, sym, ap, subst, refl, ◌∙◌}
+use Rattle.std.proofs.Common.{◌≡◌, ℤ, pos, Bool, true, false, if◌then◌else◌, ◌==◌, Option, Some, None, SFits, lit<, sym, ap, subst, ◌∙◌}
 use Rattle.std.specs.Int.{w128}
 use Rattle.rel_logic.specs.declared.term.Term.{Term, fold-roll-Term}
 use Rattle.rel_logic.specs.declared.term.Term.TheVariants as T
@@ -7,9 +7,8 @@ use Rattle.rel_logic.specs.declared.term.Term.TheOpen.{Term-F}
 use Rattle.rel_logic.specs.View.{trm_of, term_step}
 use Rattle.rel_logic.specs.Syntax.{Trm, var, bound, int, add, sub}
 use Rattle.rel_top.specs.declared.linear.Form.{Form}
-use Rattle.rel_top.specs.declared.linear.Change.{Change}
-use Rattle.rel_top.specs.declared.linear.Change.TheVariants.{Add, Subtract, AddTimes}
-use Rattle.rel_top.specs.Linear.{Linear, FitsI128, variable_form, form_of, IsLinear, plus, minus, difference}
+use Rattle.rel_top.specs.declared.linear.Change.TheVariants.{Add, Subtract}
+use Rattle.rel_top.specs.Linear.{FitsI128, form_of, IsLinear, plus, minus}
 use Rattle.rel_top.specs.Forms.{linear, FitsIfAny, IsJoined, IsTermForm, IsDifference}
 
 unit_fits : (b : Bool) → SFits w128 (if b then pos 1 else pos 0)

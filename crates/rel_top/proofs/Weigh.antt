@@ -1,8 +1,8 @@
 -- The value of a linear form where the variables have values.
-use Rattle.std.proofs.Common.{◌≡◌, ℕ, zero, suc, ℤ, pos, negsuc, ◌+◌, ◌*◌, ◌+ℤ◌, ◌-ℤ◌, ◌*ℤ◌, neg_ℤ, ◌≤◌, ◌<◌, ◌≤ℤ◌, Bool, true, false, if◌then◌else◌, ◌==◌, refl, sym, ap, ap₂, subst, ◌∙◌, arith}
+use Rattle.std.proofs.Common.{◌≡◌, ℕ, zero, suc, ℤ, pos, negsuc, ◌*◌, ◌+ℤ◌, ◌-ℤ◌, ◌*ℤ◌, neg_ℤ, ◌≤◌, ◌<◌, ◌≤ℤ◌, Bool, true, false, if◌then◌else◌, ◌==◌, refl, sym, ap, ap₂, subst, ◌∙◌, arith}
 use Rattle.std.proofs.lemmas.Int.{ints}
 use Rattle.std.proofs.lemmas.Bool.Decides.{Decides-eqb}
-use Rattle.std.proofs.Math.IntN.{suc_ℤ, pred_ℤ, suc_ℤ-*ℤ, pred_ℤ-*ℤ, +ℤ_one, -ℤ_one, zero-*ℤ, *ℤ-zero, *ℤ-one, *ℤ_comm, pos-*ℤ-negsuc, +ℤ_idl, +ℤ_idr, ℤ_ind}
+use Rattle.std.proofs.Math.IntN.{suc_ℤ-*ℤ, pred_ℤ-*ℤ, +ℤ_one, -ℤ_one, zero-*ℤ, *ℤ-zero, *ℤ_comm, pos-*ℤ-negsuc, +ℤ_idl, +ℤ_idr, ℤ_ind}
 use Rattle.rel_top.specs.Linear.{Linear, number_form, variable_form, plus, minus, times}
 
 more_times : (m x : ℤ) → (m +ℤ pos 1) *ℤ x ≡ m *ℤ x +ℤ x

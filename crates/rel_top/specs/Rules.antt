@@ -1,7 +1,6 @@
 -- The good steps, and the lists of steps that are accepted for a sequent.
-use Rattle.std.specs.Prelude.{◌≡◌, ℕ, ◌<◌, List, [], ◌∷◌, ◌++◌, map, take, length, slice_get, Some}
-use Rattle.rel_logic.specs.Syntax.{Srt, int_sort, Trm, Fml, eq, lt, no, Sqt, Nod}
-use Rattle.rel_logic.specs.Truth.{IsValid}
+use Rattle.std.specs.Prelude.{◌≡◌, ℕ, List, [], ◌∷◌, ◌++◌, map, slice_get, Some}
+use Rattle.rel_logic.specs.Syntax.{int_sort, Trm, Fml, eq, lt, no, Sqt, Nod}
 use Rattle.rel_top.specs.declared.step.Step.{Step}
 use Rattle.rel_top.specs.declared.step.Step.TheVariants.{Neint, Farkas}
 use Rattle.rel_top.specs.Linear.{term_sort, IsGoodSum}

@@ -1,5 +1,5 @@
 -- The stack of nodes that a checker stands for, and what its calls answer.
-use Rattle.std.specs.Prelude.{◌≡◌, ℕ, ◌<◌, List, [], ◌∷◌, map, reverse, take, length, slice_get, Some, None, Option, Result, Ok, Err}
+use Rattle.std.specs.Prelude.{◌≡◌, ℕ, ◌<◌, List, map, reverse, take, length, slice_get, Some, Result, Ok, Err}
 use Rattle.rel_logic.specs.declared.sequent.Node.{Node}
 use Rattle.rel_logic.specs.Syntax.{Trm, int_sort, eq, no, Sqt, Nod}
 use Rattle.rel_logic.specs.View.{node_of}

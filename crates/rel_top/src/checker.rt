@@ -56,7 +56,8 @@ fn with_form(node: &Node, form: Fol) -> Result<Node, Memory>
 /// The sides of an equation.
 fn sides(f: &Fol) -> Option<(&Term, &Term)>
     ensures { let formula = fml_of f.now in
-        MatchOption result ((t u : Trm) → formula ≢ eq t u) (λ p. formula ≡ eq (trm_of p.0.now) (trm_of p.1.now)) }
+        MatchOption result ((t u : Trm) → formula ≢ eq t u)
+        (λ p. formula ≡ eq (trm_of p.0.now) (trm_of p.1.now)) }
 {
     match f {
         Fol::Eq(t, u) => Some((t, u)),
@@ -67,7 +68,8 @@ fn sides(f: &Fol) -> Option<(&Term, &Term)>
 /// The two terms of a formula that says that they differ.
 fn unequal_terms(f: &Fol) -> Option<(&Term, &Term)>
     ensures { let formula = fml_of f.now in
-        MatchOption result ((t u : Trm) → formula ≢ no (eq t u)) (λ p. formula ≡ no (eq (trm_of p.0.now) (trm_of p.1.now))) }
+        MatchOption result ((t u : Trm) → formula ≢ no (eq t u))
+        (λ p. formula ≡ no (eq (trm_of p.0.now) (trm_of p.1.now))) }
 {
     match f {
         Fol::Not(g) => sides(g.get()),
@@ -78,7 +80,8 @@ fn unequal_terms(f: &Fol) -> Option<(&Term, &Term)>
 /// The two terms of sort Int of which formula `i` says that they differ.
 fn unequal_ints(node: &Node, i: u32) -> Option<(&Term, &Term)>
     ensures { let n = node_of node.now in
-        MatchOption result ((t u : Trm) → ¬ (DiffersAt n i t u)) (λ p. DiffersAt n i (trm_of p.0.now) (trm_of p.1.now)) }
+        MatchOption result ((t u : Trm) → ¬ (DiffersAt n i t u))
+        (λ p. DiffersAt n i (trm_of p.0.now) (trm_of p.1.now)) }
 {
     let i = i as usize;
     if i >= node.forms.len() {
@@ -199,7 +202,8 @@ fn verdict_of(alloc: Global, sequent: &Sequent, steps: &List<Step>) -> Result<Ve
 pub fn accepts(alloc: Global, sequent: &Sequent, steps: &List<Step>) -> Result<Verdict, Memory>
     requires { length steps.now < 2 ^ 32 }
     ensures verdict { IfOk result (λ v. IsVerdict (sequent_of sequent.now) steps.now v) }
-    ensures exact { IfOk result (λ v. (v ≡ Verdict.Accepted) ↔ IsAccepted (sequent_of sequent.now) steps.now) }
+    ensures exact { let q = sequent_of sequent.now in
+        IfOk result (λ v. (v ≡ Verdict.Accepted) ↔ IsAccepted q steps.now) }
 {
     verdict_of(alloc, sequent, steps)
 }

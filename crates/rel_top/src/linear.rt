@@ -6,8 +6,9 @@ ghost use Rattle.rel_logic.specs.Syntax.{int_sort};
 ghost use Rattle.rel_logic.specs.View.{sort_of, trm_of, fml_of, node_of};
 ghost use Rattle.rel_top.specs.Linear.{FitsI128, term_sort, number_form, variable_form, IsGoodSum};
 ghost use Rattle.rel_top.specs.Forms.{coefficient_at, linear, change, CanChange, CanChangeEach, ChangesEach};
-ghost use Rattle.rel_top.specs.Forms.{change_form, CanChangeForm, next_linear, FitsIfAny, IsJoined, IsTermForm, IsDifference};
-ghost use Rattle.rel_top.specs.Forms.{IsNextDifference, IsNegationForm, IsBoundedForm, IsFormAt, IsNextSum};
+ghost use Rattle.rel_top.specs.Forms.{change_form, CanChangeForm, next_linear, FitsIfAny, IsJoined};
+ghost use Rattle.rel_top.specs.Forms.{IsTermForm, IsDifference, IsNextDifference, IsNegationForm};
+ghost use Rattle.rel_top.specs.Forms.{IsBoundedForm, IsFormAt, IsNextSum};
 
 use rel_list::{Boxed, List, Memory};
 use rel_logic::fol::Fol;
@@ -57,7 +58,9 @@ fn change_all(
     requires { (v : ℕ) → FitsSigned w128 (coefficient_at a.old v) }
     ensures { let before = coefficient_at a.old in
         let other = coefficient_at c.now in
-        IfOk result (λ all. MatchBool all (ChangesEach how before other (coefficient_at a.new)) (¬ (CanChangeEach how before other))) }
+        IfOk result (λ all. MatchBool all
+        (ChangesEach how before other (coefficient_at a.new))
+        (¬ (CanChangeEach how before other))) }
 {
     for (variable, number) in c {
         match changed(how, coefficient(a, *variable), *number) {
@@ -75,7 +78,9 @@ pub fn combined(mut a: Form, how: Change, c: &Form) -> Result<Option<Form>, Memo
     requires { FitsI128 (linear a) }
     ensures { let before = linear a in
         let other = linear c.now in
-        IfOk result (λ r. MatchOption r (¬ (CanChangeForm how before other)) (λ f. (linear f ≡ change_form how before other) × CanChangeForm how before other)) }
+        IfOk result (λ r. MatchOption r
+        (¬ (CanChangeForm how before other))
+        (λ f. (linear f ≡ change_form how before other) × CanChangeForm how before other)) }
 {
     let Some(constant) = changed(how, a.constant, c.constant) else {
         return Ok(None);

@@ -1,4 +1,4 @@
-use Rattle.std.proofs.Common.{◌≡◌, ℕ, ℤ, pos, Option, ◌∷◌, ap, ◌∙◌, subst, SFits, to_z-of_z, unwrap_or, rules}
+use Rattle.std.proofs.Common.{ℤ, pos, Option, ap, ◌∙◌, subst, SFits, to_z-of_z, unwrap_or, rules}
 use Rattle.std.specs.Int.{w128}
 use Rattle.rel_top.specs.Forms.{coefficient_at, change, CanChange}
 use Rattle.rel_top.proofs.Combine.{Progress, Entries, stops, goes_on, ends}

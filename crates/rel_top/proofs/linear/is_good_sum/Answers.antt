@@ -1,4 +1,4 @@
-use Rattle.std.proofs.Common.{◌≡◌, ◌↔◌, ◌<◌, length, pos, get_or, Some, None, subst, IsTrue, SFits, rules, to_z-of_z, arith}
+use Rattle.std.proofs.Common.{◌↔◌, ◌<◌, length, pos, get_or, subst, IsTrue, SFits, rules, to_z-of_z, arith}
 use Rattle.std.specs.Int.{w128}
 use Rattle.rel_logic.specs.View.{node_of}
 use Rattle.rel_top.specs.Linear.{Pair, IsGoodSum}

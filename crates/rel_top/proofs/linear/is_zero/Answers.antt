@@ -1,4 +1,4 @@
-use Rattle.std.proofs.Common.{◌≡◌, ℕ, pos, ◌+ℤ◌, refl, sym, ap, ◌∙◌, subst, SFits, rules, to_z, of_z, to_z-of_z, lit<}
+use Rattle.std.proofs.Common.{◌≡◌, pos, ◌+ℤ◌, refl, sym, ap, ◌∙◌, subst, SFits, rules, to_z, of_z, to_z-of_z, lit<}
 use Rattle.std.specs.Int.{w128}
 use Rattle.std.proofs.Math.IntN.{+ℤ_idl}
 use Rattle.rel_top.specs.Forms.{coefficient_at}

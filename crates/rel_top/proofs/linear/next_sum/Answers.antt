@@ -1,4 +1,4 @@
-use Rattle.std.proofs.Common.{Some, slice_get, subst, SFits, to_z-of_z}
+use Rattle.std.proofs.Common.{slice_get, subst, SFits, to_z-of_z}
 use Rattle.std.specs.Int.{w128}
 use Rattle.std.proofs.lemmas.Result.{IfOk-weaker}
 use Rattle.rel_logic.specs.View.{node_of}
