@@ -1,0 +1,8 @@
+//! Reads a text into the bundle that it stands for.
+#![tactic(auto)]
+
+mod expr;
+mod fault;
+mod token;
+
+pub use fault::TextFault;
