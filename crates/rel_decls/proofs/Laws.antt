@@ -3,10 +3,13 @@ use Rattle.std.proofs.Common.{◌≡◌, ℕ, zero, suc, ◌≤◌, Bool, true, 
 use Rattle.std.specs.Str.{bytes_eq}
 use Rattle.std.proofs.lemmas.Slice.Eq.{bytes_eq-Decides}
 use Rattle.rel_lang.specs.Syntax.{Word}
-use Rattle.rel_lang.specs.Text.{Mark, word, begins, AreAt}
+use Rattle.rel_lang.specs.Text.{Mark, word, begins, AreAt, IsName}
 use Rattle.rel_lexer.specs.declared.Token.{Token}
+use Rattle.rel_lexer.specs.declared.Kind.{Kind}
+use Rattle.rel_lexer.specs.declared.Kind.TheVariants as kind
 use Rattle.rel_lexer.specs.Tokens.{HasKind}
-use Rattle.rel_decls.specs.Reading.{◌>>=◌, Reader, first_at, expect_at, is_next, place_at, means, made, both, after, before, placed, many_at}
+use Rattle.rel_decls.specs.Reading.{◌>>=◌, Reader, first_at, expect_at, is_next, place_at, means, made, both, after, before, placed, name_at, is_name_kind}
+use Rattle.rel_decls.proofs.Kinding.{name_is, kind_of_name}
 
 -- ---- what the first tokens spell
 
@@ -183,3 +186,68 @@ means_reads {X = X} w x only = record {
     (subst (λ (z : X × List Token). Begins (word w ∷ []) ts z.1) (some_is (x, a.0) (y, rest) a.2) (expect_found w ts a.0 a.1), tt);
   back = λ ts rest y k b h s. word_back w ts rest (λ others. Some (x, others)) (y, rest) Unit b (ap (λ (z : X). (z, rest)) (only y));
 }
+
+-- ---- places
+
+abbrev pub HasFirst : List Mark → Type 0
+HasFirst [] = ⊥
+HasFirst (m ∷ ms) = Unit {0}
+
+place_found : (ms : List Mark) (t : Token) (ts rest : List Token) → HasFirst ms → Begins ms (t ∷ ts) rest → Begins (begins t.at ms) (t ∷ ts) rest
+place_found [] t ts rest some b = absurd some
+place_found (m ∷ ms) t ts rest some b = (b.0, (refl, b.1), b.2)
+
+place_back : (ms : List Mark) (at : ℕ) (t : Token) (ts rest : List Token) → HasFirst ms → Begins (begins at ms) (t ∷ ts) rest → (t.at ≡ at) × Begins ms (t ∷ ts) rest
+place_back [] at t ts rest some b = absurd some
+place_back (m ∷ ms) at t ts rest some b = (sym b.1.0, (b.0, b.1.1, b.2))
+
+nothing_begins : (ms : List Mark) (at : ℕ) (rest : List Token) → HasFirst ms → Begins (begins at ms) [] rest → ⊥
+nothing_begins [] at rest some b = some
+nothing_begins (m ∷ ms) at rest some b = b
+
+placed_found : {A : Type 0} (show : A → List Mark) (Fine Fits : A → Type 0) (Stops : List Token → Type 0) (r : Reader A) → ((x : A) → HasFirst (show x)) → Reads show Fine Fits Stops r
+    → (ts rest : List Token) (x : ℕ × A) → HaveKinds ts → placed r ts ≡ Some (x, rest) → Begins (begins x.0 (show x.1)) ts rest × Fine x.1
+placed_found show Fine Fits Stops r some reads [] rest x k e = absurd cc
+placed_found {A = A} show Fine Fits Stops r some reads (t ∷ ts) rest x k e =
+    let a = bind_some (r (t ∷ ts)) (λ y. Some ((t.at, y.0), y.1)) (x, rest) e in
+    let p = reads.found (t ∷ ts) a.0.1 a.0.0 k a.1 in
+    subst (λ (y : (ℕ × A) × List Token). Begins (begins y.0.0 (show y.0.1)) (t ∷ ts) y.1 × Fine y.0.1) (some_is ((t.at, a.0.0), a.0.1) (x, rest) a.2)
+    (place_found (show a.0.0) t ts a.0.1 (some a.0.0) p.0, p.1)
+
+placed_back : {A : Type 0} (show : A → List Mark) (Fine Fits : A → Type 0) (Stops : List Token → Type 0) (r : Reader A) → ((x : A) → HasFirst (show x)) → Reads show Fine Fits Stops r
+    → (ts rest : List Token) (x : ℕ × A) → HaveKinds ts → Begins (begins x.0 (show x.1)) ts rest → Fine x.1 → Stops rest → Meets (placed r ts) (x, rest) (Fits x.1)
+placed_back show Fine Fits Stops r some reads [] rest x k b h s = absurd (nothing_begins (show x.1) x.0 rest (some x.1) b)
+placed_back show Fine Fits Stops r some reads (t ∷ ts) rest x k b h s =
+    let p = place_back (show x.1) x.0 t ts rest (some x.1) b in
+    Meets-then (r (t ∷ ts)) (λ y. Some ((t.at, y.0), y.1)) (x.1, rest) (x, rest) (Fits x.1) (reads.back (t ∷ ts) rest x.1 k p.1 h s)
+    (ap (λ (at : ℕ). ((at, x.1), rest)) p.0)
+
+pub placed_reads : {A : Type 0} (show : A → List Mark) (Fine Fits : A → Type 0) (Stops : List Token → Type 0) (r : Reader A) → ((x : A) → HasFirst (show x)) → Reads show Fine Fits Stops r
+    → Reads {X = ℕ × A} (λ x. begins x.0 (show x.1)) (λ x. Fine x.1) (λ x. Fits x.1) Stops (placed r)
+placed_reads show Fine Fits Stops r some reads = record { found = placed_found show Fine Fits Stops r some reads; back = placed_back show Fine Fits Stops r some reads }
+
+-- ---- names
+
+name_kind : (k : Kind) → is_name_kind k ≡ true → k ≡ kind.Name
+name_kind kind.Word e = absurd cc
+name_kind kind.Name e = refl
+name_kind (kind.Number n) e = absurd cc
+name_kind kind.Symbol e = absurd cc
+
+pair_is : {A B : Type 0} (a b : A) (x y : B) → a ≡ b → x ≡ y → ◌≡◌ {A = A × B} (a, x) (b, y)
+pair_is a b x y e f = cc
+
+name_found : (ts rest : List Token) (x : Word) → HaveKinds ts → name_at ts ≡ Some (x, rest) → Begins (word x ∷ []) ts rest × IsName x
+name_found [] rest x k e = absurd cc
+name_found (t ∷ ts) rest x k e =
+    let p = cond_some (is_name_kind t.kind) (t.text.now, ts) (x, rest) e in
+    subst (λ (y : Word × List Token). Begins (word y.0 ∷ []) (t ∷ ts) y.1 × IsName y.0) p.1 ((refl, tt, refl), name_is t.kind t.text.now k.0 (name_kind t.kind p.0))
+
+name_back : (ts rest : List Token) (x : Word) → HaveKinds ts → Begins (word x ∷ []) ts rest → IsName x → Meets (name_at ts) (x, rest) Unit
+name_back [] rest x k b h = absurd b
+name_back (t ∷ ts) rest x k b h =
+    let e : t.kind ≡ kind.Name = kind_of_name t.kind t.text.now k.0 (subst IsName b.0 h) in
+    Meets-is (name_at (t ∷ ts)) (x, rest) Unit (rw e (ap (λ (y : Word × List Token). Some y) (pair_is t.text.now x ts rest (sym b.0) b.2)))
+
+pub name_reads : Reads (λ x. word x ∷ []) IsName Always Always name_at
+name_reads = record { found = name_found; back = λ ts rest x k b h s. name_back ts rest x k b h }
