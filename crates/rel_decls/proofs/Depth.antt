@@ -11,4 +11,3 @@ pub exp_at_more : (n : ℕ) (ts : List Token) → 0 < n → exp_at n ts ≡ (fir
 unfolding exp_at
 exp_at_more zero ts lt = absurd (omega arith)
 exp_at_more (suc n) ts lt = let e : suc n - 1 ≡ n = omega arith in rw e refl
-

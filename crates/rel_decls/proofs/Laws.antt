@@ -157,8 +157,8 @@ after_reads w show Fine Fits Stops r reads = record {
       let q = reads.found a.0 rest x (kinds_behind (word w ∷ []) ts a.0 p k) a.2 in
       (Begins-append (word w ∷ []) (show x) ts a.0 rest p q.0, q.1);
   back = λ ts rest x k b h s.
-    let m = Begins-split (word w ∷ []) (show x) ts rest b in
-    word_back w ts m.0 r (x, rest) (Fits x) m.1 (reads.back m.0 rest x (kinds_behind (word w ∷ []) ts m.0 m.1 k) m.2 h s);
+      let m = Begins-split (word w ∷ []) (show x) ts rest b in
+      word_back w ts m.0 r (x, rest) (Fits x) m.1 (reads.back m.0 rest x (kinds_behind (word w ∷ []) ts m.0 m.1 k) m.2 h s);
 }
 
 pub before_reads : {A : Type 0} (w : Word) (show : A → List Mark) (Fine Fits : A → Type 0) (Stops : List Token → Type 0) (r : Reader A)
@@ -166,24 +166,24 @@ pub before_reads : {A : Type 0} (w : Word) (show : A → List Mark) (Fine Fits :
     → Reads (λ x. show x ++ word w ∷ []) Fine Fits Always (before w r)
 before_reads {A = A} w show Fine Fits Stops r stops reads = record {
   found = λ ts rest x k e.
-    let a = bind_some (r ts) (λ y. expect_at w y.1 >>= λ others. Some (y.0, others)) (x, rest) e in
-    let b = bind_some (expect_at w a.0.1) (λ others. Some (a.0.0, others)) (x, rest) a.2 in
-    let p = reads.found ts a.0.1 a.0.0 k a.1 in
-    let q = expect_found w a.0.1 b.0 b.1 in
-    let whole : Begins (show a.0.0 ++ word w ∷ []) ts b.0 × Fine a.0.0 = (Begins-append (show a.0.0) (word w ∷ []) ts a.0.1 b.0 p.0 q, p.1) in
-    subst (λ (y : A × List Token). Begins (show y.0 ++ word w ∷ []) ts y.1 × Fine y.0) (some_is (a.0.0, b.0) (x, rest) b.2) whole;
+      let a = bind_some (r ts) (λ y. expect_at w y.1 >>= λ others. Some (y.0, others)) (x, rest) e in
+      let b = bind_some (expect_at w a.0.1) (λ others. Some (a.0.0, others)) (x, rest) a.2 in
+      let p = reads.found ts a.0.1 a.0.0 k a.1 in
+      let q = expect_found w a.0.1 b.0 b.1 in
+      let whole : Begins (show a.0.0 ++ word w ∷ []) ts b.0 × Fine a.0.0 = (Begins-append (show a.0.0) (word w ∷ []) ts a.0.1 b.0 p.0 q, p.1) in
+      subst (λ (y : A × List Token). Begins (show y.0 ++ word w ∷ []) ts y.1 × Fine y.0) (some_is (a.0.0, b.0) (x, rest) b.2) whole;
   back = λ ts rest x k b h s.
-    let m = Begins-split (show x) (word w ∷ []) ts rest b in
-    let p = reads.back ts m.0 x k m.1 h (stops m.0 rest m.2) in
-    Meets-then (r ts) (λ y. expect_at w y.1 >>= λ others. Some (y.0, others)) (x, m.0) (x, rest) (Fits x) p
-    (word_back w m.0 rest (λ others. Some (x, others)) (x, rest) (Fits x) m.2 refl);
+      let m = Begins-split (show x) (word w ∷ []) ts rest b in
+      let p = reads.back ts m.0 x k m.1 h (stops m.0 rest m.2) in
+      Meets-then (r ts) (λ y. expect_at w y.1 >>= λ others. Some (y.0, others)) (x, m.0) (x, rest) (Fits x) p
+      (word_back w m.0 rest (λ others. Some (x, others)) (x, rest) (Fits x) m.2 refl);
 }
 
 pub means_reads : {X : Type 0} (w : Word) (x : X) → ((y : X) → x ≡ y) → Reads {X = X} (λ _. word w ∷ []) Always Always Always (means w x)
 means_reads {X = X} w x only = record {
   found = λ ts rest y k e.
-    let a = bind_some (expect_at w ts) (λ others. Some (x, others)) (y, rest) e in
-    (subst (λ (z : X × List Token). Begins (word w ∷ []) ts z.1) (some_is (x, a.0) (y, rest) a.2) (expect_found w ts a.0 a.1), tt);
+      let a = bind_some (expect_at w ts) (λ others. Some (x, others)) (y, rest) e in
+      (subst (λ (z : X × List Token). Begins (word w ∷ []) ts z.1) (some_is (x, a.0) (y, rest) a.2) (expect_found w ts a.0 a.1), tt);
   back = λ ts rest y k b h s. word_back w ts rest (λ others. Some (x, others)) (y, rest) Unit b (ap (λ (z : X). (z, rest)) (only y));
 }
 

@@ -2,3 +2,4 @@ pub mod Depth
 pub mod Laws
 pub mod Kinding
 pub mod Several
+pub mod Loop

@@ -47,13 +47,13 @@ many_found show Fine Fits r goes reads zero ts rest xs k e =
 many_found {A = A} show Fine Fits r goes reads (suc n) ts rest xs k e =
     elim (cond_cases (goes ts) (r ts >>= λ x. many_at goes r n x.1 >>= λ y. Some (x.0 ∷ y.0, y.1)) (Some ([], ts)) (xs, rest) e) [
       | inl p ↦
-        let a = bind_some (r ts) (λ x. many_at goes r n x.1 >>= λ y. Some (x.0 ∷ y.0, y.1)) (xs, rest) p.1 in
-        let b = bind_some (many_at goes r n a.0.1) (λ y. Some (a.0.0 ∷ y.0, y.1)) (xs, rest) a.2 in
-        let q = reads.found ts a.0.1 a.0.0 k a.1 in
-        let w = many_found show Fine Fits r goes reads n a.0.1 b.0.1 b.0.0 (kinds_behind (show a.0.0) ts a.0.1 q.0 k) b.1 in
-        let whole : Begins (show a.0.0 ++ show_each show b.0.0) ts b.0.1 × (Fine a.0.0 × Each Fine b.0.0) × (goes b.0.1 ≡ false) =
-            (Begins-append (show a.0.0) (show_each show b.0.0) ts a.0.1 b.0.1 q.0 w.0, (q.1, w.1), w.2) in
-        subst (λ (y : List A × List Token). Begins (show_each show y.0) ts y.1 × Each Fine y.0 × (goes y.1 ≡ false)) (some_is (a.0.0 ∷ b.0.0, b.0.1) (xs, rest) b.2) whole
+          let a = bind_some (r ts) (λ x. many_at goes r n x.1 >>= λ y. Some (x.0 ∷ y.0, y.1)) (xs, rest) p.1 in
+          let b = bind_some (many_at goes r n a.0.1) (λ y. Some (a.0.0 ∷ y.0, y.1)) (xs, rest) a.2 in
+          let q = reads.found ts a.0.1 a.0.0 k a.1 in
+          let w = many_found show Fine Fits r goes reads n a.0.1 b.0.1 b.0.0 (kinds_behind (show a.0.0) ts a.0.1 q.0 k) b.1 in
+          let whole : Begins (show a.0.0 ++ show_each show b.0.0) ts b.0.1 × (Fine a.0.0 × Each Fine b.0.0) × (goes b.0.1 ≡ false) =
+          (Begins-append (show a.0.0) (show_each show b.0.0) ts a.0.1 b.0.1 q.0 w.0, (q.1, w.1), w.2) in
+          subst (λ (y : List A × List Token). Begins (show_each show y.0) ts y.1 × Each Fine y.0 × (goes y.1 ≡ false)) (some_is (a.0.0 ∷ b.0.0, b.0.1) (xs, rest) b.2) whole
       | inr p ↦ nothing_found show Fine goes ts rest xs p.0 p.1
     ]
 

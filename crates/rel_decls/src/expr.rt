@@ -13,7 +13,7 @@ use rel_list::{Boxed, Name};
 use std::alloc::Global;
 
 /// Whether it is a sum, and the tokens behind the sign.
-fn sign_of<'t, 'a>(tokens: &'t [Token<'a>]) -> Result<(bool, &'t [Token<'a>]), TextFault>
+fn sign_of<'a>(tokens: &'a [Token<'a>]) -> Result<(bool, &'a [Token<'a>]), TextFault>
     ensures { Gives (λ x. (x.0, x.1.now)) result (sign_at tokens.now) }
 {
     let (token, rest) = first(tokens)?;
@@ -53,11 +53,11 @@ fn number(n: i128) -> Expr
 /// An expression that is at most so deep.
 #[cycle(expr)]
 #[tactic(auto, using(crate::proofs::Depth::exp_at_more))]
-pub fn expr_of<'t, 'a>(
+pub fn expr_of<'a>(
     alloc: Global,
-    tokens: &'t [Token<'a>],
+    tokens: &'a [Token<'a>],
     depth: u32,
-) -> Result<(Expr, &'t [Token<'a>]), TextFault>
+) -> Result<(Expr, &'a [Token<'a>]), TextFault>
     ensures { Gives (λ x. (exp_of x.0, x.1.now)) result (exp_at depth tokens.now) }
 {
     if depth == 0 {
@@ -74,11 +74,11 @@ pub fn expr_of<'t, 'a>(
 
 /// What stands behind the parenthesis: two expressions that are at most so deep.
 #[cycle(expr)]
-fn pair_of<'t, 'a>(
+fn pair_of<'a>(
     alloc: Global,
-    tokens: &'t [Token<'a>],
+    tokens: &'a [Token<'a>],
     depth: u32,
-) -> Result<(Expr, &'t [Token<'a>]), TextFault>
+) -> Result<(Expr, &'a [Token<'a>]), TextFault>
     ensures { Gives (λ x. (exp_of x.0, x.1.now)) result (pair_at (exp_at depth) tokens.now) }
 {
     let (left, rest) = expr_of(alloc, tokens, depth)?;

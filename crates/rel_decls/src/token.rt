@@ -8,7 +8,10 @@ use rel_lexer::{Kind, Token};
 use rel_list::Name;
 use std::alloc::Global;
 
-pub fn first<'t, 'a>(tokens: &'t [Token<'a>]) -> Result<(Token<'a>, &'t [Token<'a>]), TextFault>
+/// How many may stand in a row.
+pub const MOST: usize = 16384;
+
+pub fn first<'a>(tokens: &'a [Token<'a>]) -> Result<(Token<'a>, &'a [Token<'a>]), TextFault>
     ensures { Gives (λ x. (x.0, x.1.now)) result (first_at tokens.now) }
 {
     match tokens {
@@ -18,7 +21,7 @@ pub fn first<'t, 'a>(tokens: &'t [Token<'a>]) -> Result<(Token<'a>, &'t [Token<'
 }
 
 /// The tokens behind one that has this text.
-pub fn expect<'t, 'a>(tokens: &'t [Token<'a>], text: &str) -> Result<&'t [Token<'a>], TextFault>
+pub fn expect<'a>(tokens: &'a [Token<'a>], text: &str) -> Result<&'a [Token<'a>], TextFault>
     ensures { Gives (λ rest. rest.now) result (expect_at text.now tokens.now) }
 {
     let (token, rest) = first(tokens)?;
@@ -46,10 +49,10 @@ pub fn place(tokens: &[Token<'_>]) -> Result<u32, TextFault>
     Ok(token.at)
 }
 
-pub fn name_of<'t, 'a>(
+pub fn name_of<'a>(
     alloc: Global,
-    tokens: &'t [Token<'a>],
-) -> Result<(Name, &'t [Token<'a>]), TextFault>
+    tokens: &'a [Token<'a>],
+) -> Result<(Name, &'a [Token<'a>]), TextFault>
     ensures { Gives (λ x. (x.0, x.1.now)) result (name_at tokens.now) }
 {
     let (token, rest) = first(tokens)?;
