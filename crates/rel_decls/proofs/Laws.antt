@@ -81,17 +81,17 @@ abbrev pub Follows : {X : Type 0} → (X → List Mark) → (X → Type 0) → (
 Follows {X = X} show Fine Stops Before = (ts rest : List Token) (x : X) → Begins (show x) ts rest → Fine x → Stops rest → Before ts
 
 pub reads_as : {X : Type 0} (show other : X → List Mark) (Fine Good Fits Less : X → Type 0) (Stops : List Token → Type 0) (r : Reader X)
-    → ((x : X) → show x ≡ other x) → ((x : X) → Fine x → Good x) → ((x : X) → Good x → Fine x) → ((x : X) → Less x → Fits x)
-    → Reads show Fine Fits Stops r → Reads other Good Less Stops r
-reads_as show other Fine Good Fits Less Stops r same good fine less reads = record {
+    → Reads show Fine Fits Stops r → ((x : X) → show x ≡ other x) → ((x : X) → Fine x → Good x) → ((x : X) → Good x → Fine x) → ((x : X) → Less x → Fits x)
+    → Reads other Good Less Stops r
+reads_as show other Fine Good Fits Less Stops r reads same good fine less = record {
   found = λ ts rest x k e. let p = reads.found ts rest x k e in (subst (λ ms. Begins ms ts rest) (same x) p.0, good x p.1);
   back = λ ts rest x k b g s. Meets-weaker (r ts) (x, rest) (Fits x) (Less x) (less x) (reads.back ts rest x k (subst (λ ms. Begins ms ts rest) (sym (same x)) b) (fine x g) s);
 }
 
 pub made_reads : {A X : Type 0} (show : A → List Mark) (Fine Fits : A → Type 0) (Stops : List Token → Type 0) (r : Reader A) (f : A → X) (g : X → A)
-    → ((a : A) → g (f a) ≡ a) → ((x : X) → f (g x) ≡ x) → Reads show Fine Fits Stops r
+    → Reads show Fine Fits Stops r → ((a : A) → g (f a) ≡ a) → ((x : X) → f (g x) ≡ x)
     → Reads (λ x. show (g x)) (λ x. Fine (g x)) (λ x. Fits (g x)) Stops (made f r)
-made_reads {A = A} {X = X} show Fine Fits Stops r f g back_a back_x reads = record {
+made_reads {A = A} {X = X} show Fine Fits Stops r f g reads back_a back_x = record {
   found = λ ts rest x k e.
       let a = bind_some (r ts) (λ y. Some (f y.0, y.1)) (x, rest) e in
       let p = reads.found ts a.0.1 a.0.0 k a.1 in
@@ -103,9 +103,9 @@ made_reads {A = A} {X = X} show Fine Fits Stops r f g back_a back_x reads = reco
 
 pub both_reads : {A B : Type 0} (show : A → List Mark) (Fine Fits : A → Type 0) (Stops : List Token → Type 0) (r : Reader A)
     (show2 : B → List Mark) (Fine2 Fits2 : B → Type 0) (Stops2 : List Token → Type 0) (r2 : Reader B)
-    → Follows show2 Fine2 Stops2 Stops → Reads show Fine Fits Stops r → Reads show2 Fine2 Fits2 Stops2 r2
+    → Reads show Fine Fits Stops r → Reads show2 Fine2 Fits2 Stops2 r2 → Follows show2 Fine2 Stops2 Stops
     → Reads {X = A × B} (λ x. show x.0 ++ show2 x.1) (λ x. Fine x.0 × Fine2 x.1) (λ x. Fits x.0 × Fits2 x.1) Stops2 (both r r2)
-both_reads {A = A} {B = B} show Fine Fits Stops r show2 Fine2 Fits2 Stops2 r2 follows one two = record {
+both_reads {A = A} {B = B} show Fine Fits Stops r show2 Fine2 Fits2 Stops2 r2 one two follows = record {
   found = λ ts rest x k e.
       let a = bind_some (r ts) (λ y. r2 y.1 >>= λ z. Some ((y.0, z.0), z.1)) (x, rest) e in
       let b = bind_some (r2 a.0.1) (λ z. Some ((a.0.0, z.0), z.1)) (x, rest) a.2 in
@@ -162,9 +162,9 @@ after_reads w show Fine Fits Stops r reads = record {
 }
 
 pub before_reads : {A : Type 0} (w : Word) (show : A → List Mark) (Fine Fits : A → Type 0) (Stops : List Token → Type 0) (r : Reader A)
-    → ((ts rest : List Token) → Begins (word w ∷ []) ts rest → Stops ts) → Reads show Fine Fits Stops r
+    → Reads show Fine Fits Stops r → ((ts rest : List Token) → Begins (word w ∷ []) ts rest → Stops ts)
     → Reads (λ x. show x ++ word w ∷ []) Fine Fits Always (before w r)
-before_reads {A = A} w show Fine Fits Stops r stops reads = record {
+before_reads {A = A} w show Fine Fits Stops r reads stops = record {
   found = λ ts rest x k e.
       let a = bind_some (r ts) (λ y. expect_at w y.1 >>= λ others. Some (y.0, others)) (x, rest) e in
       let b = bind_some (expect_at w a.0.1) (λ others. Some (a.0.0, others)) (x, rest) a.2 in
@@ -222,9 +222,9 @@ placed_back show Fine Fits Stops r some reads (t ∷ ts) rest x k b h s =
     Meets-then (r (t ∷ ts)) (λ y. Some ((t.at, y.0), y.1)) (x.1, rest) (x, rest) (Fits x.1) (reads.back (t ∷ ts) rest x.1 k p.1 h s)
     (ap (λ (at : ℕ). ((at, x.1), rest)) p.0)
 
-pub placed_reads : {A : Type 0} (show : A → List Mark) (Fine Fits : A → Type 0) (Stops : List Token → Type 0) (r : Reader A) → ((x : A) → HasFirst (show x)) → Reads show Fine Fits Stops r
+pub placed_reads : {A : Type 0} (show : A → List Mark) (Fine Fits : A → Type 0) (Stops : List Token → Type 0) (r : Reader A) → Reads show Fine Fits Stops r → ((x : A) → HasFirst (show x))
     → Reads {X = ℕ × A} (λ x. begins x.0 (show x.1)) (λ x. Fine x.1) (λ x. Fits x.1) Stops (placed r)
-placed_reads show Fine Fits Stops r some reads = record { found = placed_found show Fine Fits Stops r some reads; back = placed_back show Fine Fits Stops r some reads }
+placed_reads show Fine Fits Stops r reads some = record { found = placed_found show Fine Fits Stops r some reads; back = placed_back show Fine Fits Stops r some reads }
 
 -- ---- names
 

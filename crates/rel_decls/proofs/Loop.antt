@@ -1,5 +1,6 @@
 -- Reading trees one after the other, as a loop does.
-use Rattle.std.proofs.Common.{◌≡◌, ℕ, zero, suc, ◌+◌, ◌-◌, ◌<◌, ◌≤◌, Bool, true, false, if◌then◌else◌, List, [], ◌∷◌, ◌++◌, length, map, Option, Some, None, refl, sym, ap, subst, ◌∙◌, append_assoc, arith}
+use Rattle.std.proofs.Common.{◌≡◌, ℕ, zero, suc, ◌+◌, ◌-◌, ◌<◌, ◌≤◌, Bool, true, false, if◌then◌else◌, List, [], ◌∷◌, ◌++◌, length, map, eqb, Option, Some, None, refl, sym, ap, subst, ◌∙◌, append_assoc, arith}
+use Rattle.std.proofs.lemmas.Bool.{true≢false, ne_eqb}
 use Rattle.std.proofs.lemmas.List.{append-nil, map_push}
 use Rattle.rel_lang.specs.Syntax.{Block, then, bithen}
 use Rattle.rel_lang.specs.View.{command_of, block_of, bicommand_of, biblock_of}
@@ -8,11 +9,7 @@ use Rattle.rel_lang.specs.declared.biprogram.BiCommand.{BiCommand}
 use Rattle.rel_lexer.specs.declared.Token.{Token}
 use Rattle.rel_decls.specs.declared.fault.TextFault.{TextFault}
 use Rattle.rel_decls.specs.declared.fault.TextFault.TheVariants as faults
-use Rattle.rel_decls.specs.Reading.{◌>>=◌, Fails, Reader, many_at, several_commands_at, commands_at, block_from, several_bicommands_at, bicommands_at, biblock_from}
-
--- with what was read before
-abbrev pub with_front : {A : Type 0} → List A → Option (List A × List Token) → Option (List A × List Token)
-with_front front read = read >>= λ y. Some (front ++ y.0, y.1)
+use Rattle.rel_decls.specs.Reading.{◌>>=◌, Fails, Reader, with_front, is_more, many_at, several_commands_at, commands_at, block_from, several_bicommands_at, bicommands_at, biblock_from}
 
 -- What is read in all, after those in front: so many are still left to read at most.
 pub record SoFar {A : Type 0} (goes : List Token → Bool) (r : Reader A) (left : ℕ) (front : List A) (rest : List Token) (total : Option (List A × List Token)) : Type 0 where
@@ -50,13 +47,18 @@ unchanged (Some y) = refl
 pub begun : {T A : Type 0} (v : T → A) (xs : List T) (goes : List Token → Bool) (r : Reader A) (limit : ℕ) (ts : List Token) → xs ≡ [] → SoFar goes r limit (map v xs) ts (many_at goes r limit ts)
 begun v xs goes r limit ts e = record { all = rw e (unchanged (many_at goes r limit ts)) }
 
+-- with the first in front
+pub begun_with : {T A : Type 0} (v : T → A) (xs ys : List T) (x : T) (goes : List Token → Bool) (r : Reader A) (limit : ℕ) (ts : List Token) → xs ≡ [] → ys ≡ xs ++ x ∷ []
+    → SoFar goes r limit (map v ys) ts (with_front (v x ∷ []) (many_at goes r limit ts))
+begun_with v xs ys x goes r limit ts none pushed = record { all = rw (pushed, none) refl }
+
 pub goes_on : {T A : Type 0} (v : T → A) (xs ys : List T) (x : T) (goes : List Token → Bool) (r : Reader A) (limit i : ℕ) (ts after : List Token) (total : Option (List A × List Token))
     → i < limit → goes ts ≡ true → r ts ≡ Some (v x, after) → ys ≡ xs ++ x ∷ [] → SoFar goes r (limit - i) (map v xs) ts total → SoFar goes r (limit - (i + 1)) (map v ys) after total
 goes_on v xs ys x goes r limit i ts after total lt go read pushed so =
     let n = limit - (i + 1) in
     let k : limit - i ≡ suc n = omega arith in
     let one : many_at goes r (limit - i) ts ≡ (many_at goes r n after >>= λ y. Some (v x ∷ y.0, y.1)) =
-        ap (λ (m : ℕ). many_at goes r m ts) k ∙ one_more goes r n ts go ∙ ap (λ o. o >>= λ z. many_at goes r n z.1 >>= λ y. Some (z.0 ∷ y.0, y.1)) read in
+    ap (λ (m : ℕ). many_at goes r m ts) k ∙ one_more goes r n ts go ∙ ap (λ o. o >>= λ z. many_at goes r n z.1 >>= λ y. Some (z.0 ∷ y.0, y.1)) read in
     let front : map v ys ≡ map v xs ++ v x ∷ [] = ap (map v) pushed ∙ map_push v xs x in
     record { all = rw front (sym (regroup (map v xs) (v x) (many_at goes r n after)) ∙ sym (ap (with_front (map v xs)) one) ∙ so.all) }
 
@@ -67,7 +69,7 @@ fails goes r limit i front ts faults.Refused total lt go read so =
     let n = limit - (i + 1) in
     let k : limit - i ≡ suc n = omega arith in
     let one : many_at goes r (limit - i) ts ≡ None =
-        ap (λ (m : ℕ). many_at goes r m ts) k ∙ one_more goes r n ts go ∙ ap (λ o. o >>= λ z. many_at goes r n z.1 >>= λ y. Some (z.0 ∷ y.0, y.1)) read in
+    ap (λ (m : ℕ). many_at goes r m ts) k ∙ one_more goes r n ts go ∙ ap (λ o. o >>= λ z. many_at goes r n z.1 >>= λ y. Some (z.0 ∷ y.0, y.1)) read in
     sym so.all ∙ ap (with_front front) one
 
 -- one too many
@@ -111,3 +113,13 @@ bicommands_found ts rest cs e = rw e (ap (λ b. Some (b, rest)) (biblock_is cs))
 pub bicommands_fail : (ts : List Token) (e : TextFault) → Fails e (several_bicommands_at ts) → Fails e (bicommands_at ts)
 unfolding bicommands_at
 bicommands_fail ts e h = fails_then e (several_bicommands_at ts) (λ x. Some (biblock_from x.0, x.1)) h
+
+-- ---- whether tokens are left
+
+pub empty : (ts : List Token) {b : Bool} → b ≡ eqb (length ts) 0 → b ≡ true → is_more ts ≡ false
+empty [] e t = refl
+empty (x ∷ ts) e t = absurd (true≢false (sym t ∙ e ∙ ne_eqb (suc (length ts)) 0 (λ h. omega (arith, h))))
+
+pub not_empty : (ts : List Token) {b : Bool} → b ≡ eqb (length ts) 0 → b ≡ false → is_more ts ≡ true
+not_empty [] e f = absurd (true≢false (sym e ∙ f))
+not_empty (x ∷ ts) e f = refl

@@ -90,9 +90,9 @@ many_back show Fine Fits r goes starts reads (suc n) ts rest (x ∷ xs) k b h s 
     let whole = Meets-then (r ts) (λ y. many_at goes r n y.1 >>= λ z. Some (y.0 ∷ z.0, z.1)) (x, m.0) (x ∷ xs, rest) Whole p (Meets-then (many_at goes r n m.0) (λ z. Some (x ∷ z.0, z.1)) (xs, rest) (x ∷ xs, rest) Whole q refl) in
     subst (λ o. Meets o (x ∷ xs, rest) Whole) (sym e) whole
 
-pub many_reads : {A : Type 0} (show : A → List Mark) (Fine Fits : A → Type 0) (r : Reader A) (goes : List Token → Bool) (n : ℕ) → Starts show Fine goes → Reads show Fine Fits Always r
+pub many_reads : {A : Type 0} (show : A → List Mark) (Fine Fits : A → Type 0) (r : Reader A) (goes : List Token → Bool) (n : ℕ) → Reads show Fine Fits Always r → Starts show Fine goes
     → Reads (show_each show) (Each Fine) (FitMany Fits n) (λ rest. goes rest ≡ false) (many_at goes r n)
-many_reads show Fine Fits r goes n starts reads = record {
+many_reads show Fine Fits r goes n reads starts = record {
   found = λ ts rest xs k e. let p = many_found show Fine Fits r goes reads n ts rest xs k e in (p.0, p.1);
   back = many_back show Fine Fits r goes starts reads n;
 }

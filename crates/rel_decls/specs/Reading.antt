@@ -83,9 +83,17 @@ unfoldable pub many_at : {A : Type 0} → (List Token → Bool) → Reader A →
 many_at goes r zero ts = if goes ts then None else Some ([], ts)
 many_at goes r (suc n) ts = if goes ts then (r ts >>= λ x. many_at goes r n x.1 >>= λ y. Some (x.0 ∷ y.0, y.1)) else Some ([], ts)
 
+-- with what was read before
+abbrev pub with_front : {A : Type 0} → List A → Option (List A × List Token) → Option (List A × List Token)
+with_front front read = read >>= λ y. Some (front ++ y.0, y.1)
+
+-- each behind a comma
+abbrev pub more_at : {A : Type 0} → Reader A → ℕ → Reader (List A)
+more_at r n = many_at (is_next (codes ",")) (after (codes ",") r) n
+
 -- the trees with a comma between them, or none before the word that stands behind them
 unfoldable pub listed_at : {A : Type 0} → Word → Reader A → ℕ → Reader (List A)
-listed_at w r n ts = if is_next w ts then Some ([], ts) else made (λ p. p.0 ∷ p.1) (both r (many_at (is_next (codes ",")) (after (codes ",") r) n)) ts
+listed_at w r n ts = if is_next w ts then Some ([], ts) else (r ts >>= λ x. with_front (x.0 ∷ []) (more_at r n x.1))
 
 -- how many may stand in a row
 abbrev pub most : ℕ
@@ -269,5 +277,8 @@ judgement_at = made judgement_from (placed (both (both (both title_at (after (co
 unfoldable pub item_at : Reader Item
 item_at ts = if is_next (codes "unit") ts then made unit unit_at ts else made judge judgement_at ts
 
+abbrev pub items_at : Reader (List Item)
+items_at = many_at is_more item_at most
+
 unfoldable pub bundle_at : Reader Bundle
-bundle_at = made (λ items. record { items = items }) (many_at is_more item_at most)
+bundle_at = made (λ items. record { items = items }) items_at

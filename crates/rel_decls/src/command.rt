@@ -14,7 +14,7 @@ use std::alloc::Global;
 
 /// A command whose expressions are at most so deep.
 #[tactic(auto, unfolding(crate::specs::Reading::command_at))]
-fn plain_command<'a>(
+fn command<'a>(
     alloc: Global,
     tokens: &'a [Token<'a>],
     depth: u32,
@@ -30,20 +30,20 @@ fn plain_command<'a>(
 }
 
 /// A command and the semicolon behind it.
-fn command_of<'a>(
+fn ended_command<'a>(
     alloc: Global,
     tokens: &'a [Token<'a>],
     depth: u32,
 ) -> Result<(Command, &'a [Token<'a>]), TextFault>
     ensures { Gives (λ x. (command_of x.0, x.1.now)) result (before (codes ";") (command_at depth) tokens.now) }
 {
-    let (command, rest) = plain_command(alloc, tokens, depth)?;
+    let (command, rest) = command(alloc, tokens, depth)?;
     let rest = expect(rest, ";")?;
     Ok((command, rest))
 }
 
 /// The commands up to a closing brace.
-pub fn commands_of<'a>(
+pub fn commands<'a>(
     alloc: Global,
     tokens: &'a [Token<'a>],
     depth: u32,
@@ -55,7 +55,7 @@ pub fn commands_of<'a>(
         if is_next(read.1, "}") {
             return Ok(read);
         }
-        let (command, after) = command_of(alloc, read.1, depth)?;
+        let (command, after) = ended_command(alloc, read.1, depth)?;
         read.0.push(command)?;
         read.1 = after;
     }
@@ -68,7 +68,7 @@ pub fn commands_of<'a>(
 
 /// The commands between braces.
 #[tactic(auto, unfolding(crate::specs::Reading::block_at))]
-pub fn block_of<'a>(
+pub fn block<'a>(
     alloc: Global,
     tokens: &'a [Token<'a>],
     depth: u32,
@@ -76,7 +76,7 @@ pub fn block_of<'a>(
     ensures { Gives (λ x. (block_of x.0, x.1.now)) result (block_at depth tokens.now) }
 {
     let rest = expect(tokens, "{")?;
-    let (commands, rest) = commands_of(alloc, rest, depth)?;
+    let (commands, rest) = commands(alloc, rest, depth)?;
     let rest = expect(rest, "}")?;
     Ok((commands, rest))
 }

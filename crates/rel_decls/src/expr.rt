@@ -12,6 +12,14 @@ use rel_lexer::{Kind, Token};
 use rel_list::{Boxed, Name};
 use std::alloc::Global;
 
+/// How deep an expression may be: in a formula, in a body and in a split, where one less is left for each
+/// tree that holds it, of 64.
+pub const FORMULA_DEPTH: u32 = 63;
+
+pub const BODY_DEPTH: u32 = 63;
+
+pub const SPLIT_DEPTH: u32 = 62;
+
 /// Whether it is a sum, and the tokens behind the sign.
 fn sign_of<'a>(tokens: &'a [Token<'a>]) -> Result<(bool, &'a [Token<'a>]), TextFault>
     ensures { Gives (λ x. (x.0, x.1.now)) result (sign_at tokens.now) }

@@ -3,7 +3,7 @@ use Rattle.std.proofs.lemmas.Result.{err_from_is_err_and}
 use Rattle.rel_lang.specs.View.{command_of}
 use Rattle.rel_decls.specs.declared.fault.TextFault.TheVariants as faults
 use Rattle.rel_decls.proofs.Loop.{begun, goes_on, fails, is_full, ended, commands_found, commands_fail}
-use Rattle.rel_decls.proofs.command.commands_of.Goals as goal
+use Rattle.rel_decls.proofs.command.commands.Goals as goal
 
 pub loop-init : goal.loop-init
 loop-init c = begun command_of _ _ _ _ _ c.new.ensures
