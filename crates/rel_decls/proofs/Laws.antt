@@ -123,7 +123,7 @@ both_reads {A = A} {B = B} show Fine Fits Stops r show2 Fine2 Fits2 Stops2 r2 on
 
 -- ---- words
 
-same_text : (a b : List ℕ) → bytes_eq a b ≡ true → a ≡ b
+pub same_text : (a b : List ℕ) → bytes_eq a b ≡ true → a ≡ b
 same_text a b e = (bytes_eq-Decides a b).0 e
 
 pub text_same : (a b : List ℕ) → b ≡ a → bytes_eq a b ≡ true
@@ -234,7 +234,7 @@ name_kind kind.Name e = refl
 name_kind (kind.Number n) e = absurd cc
 name_kind kind.Symbol e = absurd cc
 
-pair_is : {A B : Type 0} (a b : A) (x y : B) → a ≡ b → x ≡ y → ◌≡◌ {A = A × B} (a, x) (b, y)
+pub pair_is : {A B : Type 0} (a b : A) (x y : B) → a ≡ b → x ≡ y → ◌≡◌ {A = A × B} (a, x) (b, y)
 pair_is a b x y e f = cc
 
 name_found : (ts rest : List Token) (x : Word) → HaveKinds ts → name_at ts ≡ Some (x, rest) → Begins (word x ∷ []) ts rest × IsName x

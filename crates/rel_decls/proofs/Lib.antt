@@ -3,3 +3,4 @@ pub mod Laws
 pub mod Kinding
 pub mod Several
 pub mod Loop
+pub mod Expressions
