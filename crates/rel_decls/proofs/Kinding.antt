@@ -18,7 +18,7 @@ use Rattle.rel_lexer.specs.declared.Kind.{Kind}
 use Rattle.rel_lexer.specs.declared.Kind.TheVariants as kind
 use Rattle.rel_lexer.specs.Tokens.{IsOfKind}
 
-clash : (b : Bool) → b ≡ true → b ≡ false → ⊥
+pub clash : (b : Bool) → b ≡ true → b ≡ false → ⊥
 clash b t f = cc
 
 and_left : (a b : Bool) → (a && b) ≡ true → a ≡ true
@@ -29,7 +29,7 @@ and_right : (a b : Bool) → (a && b) ≡ true → b ≡ true
 and_right true b e = e
 and_right false b e = absurd cc
 
-decided : (b : Bool) → (b ≡ true → ⊥) → b ≡ false
+pub decided : (b : Bool) → (b ≡ true → ⊥) → b ≡ false
 decided true never = absurd (never refl)
 decided false never = refl
 

@@ -4,3 +4,5 @@ pub mod Kinding
 pub mod Several
 pub mod Loop
 pub mod Expressions
+pub mod Grammar
+pub mod Commands
