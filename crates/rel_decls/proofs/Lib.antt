@@ -6,3 +6,5 @@ pub mod Loop
 pub mod Expressions
 pub mod Grammar
 pub mod Commands
+pub mod Items
+pub mod Standing

@@ -20,15 +20,15 @@ Each P (x ∷ xs) = P x × Each P xs
 abbrev pub Starts : {A : Type 0} → (A → List Mark) → (A → Type 0) → (List Token → Bool) → Type 0
 Starts {A = A} show Fine goes = (ts rest : List Token) (x : A) → Begins (show x) ts rest → Fine x → goes ts ≡ true
 
-when_false : {A : Type 0} (b : Bool) (x y : Option A) → b ≡ false → (if b then x else y) ≡ y
+pub when_false : {A : Type 0} (b : Bool) (x y : Option A) → b ≡ false → (if b then x else y) ≡ y
 when_false true x y e = absurd cc
 when_false false x y e = refl
 
-when_true : {A : Type 0} (b : Bool) (x y : Option A) → b ≡ true → (if b then x else y) ≡ x
+pub when_true : {A : Type 0} (b : Bool) (x y : Option A) → b ≡ true → (if b then x else y) ≡ x
 when_true true x y e = refl
 when_true false x y e = absurd cc
 
-cond_cases : {A : Type 0} (b : Bool) (x y : Option A) (z : A) → (if b then x else y) ≡ Some z → ((b ≡ true) × (x ≡ Some z)) ⊎ ((b ≡ false) × (y ≡ Some z))
+pub cond_cases : {A : Type 0} (b : Bool) (x y : Option A) (z : A) → (if b then x else y) ≡ Some z → ((b ≡ true) × (x ≡ Some z)) ⊎ ((b ≡ false) × (y ≡ Some z))
 cond_cases true x y z e = inl (refl, e)
 cond_cases false x y z e = inr (refl, e)
 
@@ -121,7 +121,7 @@ pub next_is_not : (w : Word) (m : Mark) (ms : List Mark) (ts rest : List Token) 
 next_is_not w m ms [] rest e b = absurd b
 next_is_not w m ms (t ∷ ts) rest e b = subst (λ x. bytes_eq x w ≡ false) b.0 e
 
-other_next : (v w : Word) (ts : List Token) → bytes_eq v w ≡ false → is_next v ts ≡ true → is_next w ts ≡ false
+pub other_next : (v w : Word) (ts : List Token) → bytes_eq v w ≡ false → is_next v ts ≡ true → is_next w ts ≡ false
 other_next v w [] e n = absurd cc
 other_next v w (t ∷ ts) e n = subst (λ x. bytes_eq x w ≡ false) (sym (same_text t.text.now v n)) e
 
