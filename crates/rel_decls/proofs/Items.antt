@@ -203,11 +203,11 @@ item_found ts rest i k e =
     let P : Item × List Token → Type 0 = λ y. Begins (show_item y.0) ts y.1 × IsPrintableItem y.0 in
     elim (cond_cases (is_next (codes "unit") ts) (made unit unit_at ts) (made judge judgement_at ts) (i, rest) e) [
       | inl p ↦
-        let a = bind_some (unit_at ts) (λ x. Some (unit x.0, x.1)) (i, rest) p.1 in
-        subst P (some_is (unit a.0.0, a.0.1) (i, rest) a.2) (unit_reads.found ts a.0.1 a.0.0 k a.1)
+          let a = bind_some (unit_at ts) (λ x. Some (unit x.0, x.1)) (i, rest) p.1 in
+          subst P (some_is (unit a.0.0, a.0.1) (i, rest) a.2) (unit_reads.found ts a.0.1 a.0.0 k a.1)
       | inr p ↦
-        let a = bind_some (judgement_at ts) (λ x. Some (judge x.0, x.1)) (i, rest) p.1 in
-        subst P (some_is (judge a.0.0, a.0.1) (i, rest) a.2) (judgement_reads.found ts a.0.1 a.0.0 k a.1)
+          let a = bind_some (judgement_at ts) (λ x. Some (judge x.0, x.1)) (i, rest) p.1 in
+          subst P (some_is (judge a.0.0, a.0.1) (i, rest) a.2) (judgement_reads.found ts a.0.1 a.0.0 k a.1)
     ]
 
 abbrev behind_unit : UnitItem → List Mark

@@ -139,12 +139,12 @@ listed_found {A = A} show Fine Fits r w n reads ts rest xs k e =
     elim (cond_cases (is_next w ts) (Some ([], ts)) (r ts >>= λ x. with_front (x.0 ∷ []) (more_at r n x.1)) (xs, rest) e) [
       | inl p ↦ subst P (some_is ([], ts) (xs, rest) p.1) (refl, tt)
       | inr p ↦
-        let a = bind_some (r ts) (λ x. with_front (x.0 ∷ []) (more_at r n x.1)) (xs, rest) p.1 in
-        let b = bind_some (more_at r n a.0.1) (λ y. Some (a.0.0 ∷ y.0, y.1)) (xs, rest) a.2 in
-        let q = reads.found ts a.0.1 a.0.0 k a.1 in
-        let m = (comma_reads show Fine Fits r n reads).found a.0.1 b.0.1 b.0.0 (kinds_behind (show a.0.0) ts a.0.1 q.0 k) b.1 in
-        let whole : P (a.0.0 ∷ b.0.0, b.0.1) = (Begins-append (show a.0.0) (show_each (λ y. word (codes ",") ∷ show y) b.0.0) ts a.0.1 b.0.1 q.0 m.0, (q.1, m.1)) in
-        subst P (some_is (a.0.0 ∷ b.0.0, b.0.1) (xs, rest) b.2) whole
+          let a = bind_some (r ts) (λ x. with_front (x.0 ∷ []) (more_at r n x.1)) (xs, rest) p.1 in
+          let b = bind_some (more_at r n a.0.1) (λ y. Some (a.0.0 ∷ y.0, y.1)) (xs, rest) a.2 in
+          let q = reads.found ts a.0.1 a.0.0 k a.1 in
+          let m = (comma_reads show Fine Fits r n reads).found a.0.1 b.0.1 b.0.0 (kinds_behind (show a.0.0) ts a.0.1 q.0 k) b.1 in
+          let whole : P (a.0.0 ∷ b.0.0, b.0.1) = (Begins-append (show a.0.0) (show_each (λ y. word (codes ",") ∷ show y) b.0.0) ts a.0.1 b.0.1 q.0 m.0, (q.1, m.1)) in
+          subst P (some_is (a.0.0 ∷ b.0.0, b.0.1) (xs, rest) b.2) whole
     ]
 
 -- no tree begins with the word
@@ -164,7 +164,7 @@ listed_back show Fine Fits r w n reads starts other ts rest (x ∷ xs) k b h s =
     let Whole = FitMany Fits (suc n) (x ∷ xs) in
     let p = Meets-weaker (r ts) (x, m.0) (Fits x) Whole (λ f. f.1.0) (reads.back ts m.0 x k m.1 h.0 tt) in
     let q = Meets-weaker (more_at r n m.0) (xs, rest) (FitMany Fits n xs) Whole (λ f. (shorter (length xs) n f.0, f.1.1))
-        ((comma_reads show Fine Fits r n reads).back m.0 rest xs (kinds_behind (show x) ts m.0 m.1 k) m.2 h.1 (other_next w (codes ",") rest other s)) in
+    ((comma_reads show Fine Fits r n reads).back m.0 rest xs (kinds_behind (show x) ts m.0 m.1 k) m.2 h.1 (other_next w (codes ",") rest other s)) in
     let whole = Meets-then (r ts) (λ y. with_front (y.0 ∷ []) (more_at r n y.1)) (x, m.0) (x ∷ xs, rest) Whole p (Meets-then (more_at r n m.0) (λ z. Some (x ∷ z.0, z.1)) (xs, rest) (x ∷ xs, rest) Whole q refl) in
     subst (λ o. Meets o (x ∷ xs, rest) Whole) (sym e) whole
 
