@@ -1,7 +1,7 @@
 -- Two lists of commands that are equal but for `at`.
 use Rattle.std.proofs.Common.{◌≡◌, ℕ, ◌+◌, ◌<◌, ◌≤◌, List, [], ◌∷◌, ◌++◌, length, get_or, take, map, sym, ap, refl, ◌∙◌}
 use Rattle.std.proofs.lemmas.List.{map_more, get_or-map, length-map, take_all}
-use Rattle.rel_lang.specs.Syntax.{Form, Block, done, then, command, without_at, form_without_at}
+use Rattle.rel_lang.specs.Syntax.{Form, Block, done, seq, command, without_at, form_without_at}
 use Rattle.rel_lang.specs.declared.command.Command.{Command}
 use Rattle.rel_lang.specs.View.{form_of, block_of}
 
@@ -28,11 +28,11 @@ same_whole f xs ys i h k same = sym (ap (map f) (take_all i xs h)) ∙ same ∙ 
 
 abbrev blocked : List Form → Block
 blocked [] = done
-blocked (f ∷ fs) = then (command 0 f) (blocked fs)
+blocked (f ∷ fs) = seq (command 0 f) (blocked fs)
 
 abbrev unblocked : Block → List Form
 unblocked done = []
-unblocked (then (command at f) cs) = f ∷ unblocked cs
+unblocked (seq (command at f) cs) = f ∷ unblocked cs
 
 unblocked_blocked : (fs : List Form) → unblocked (blocked fs) ≡ fs
 unblocked_blocked [] = refl
@@ -40,7 +40,7 @@ unblocked_blocked (f ∷ fs) = ap (λ l. f ∷ l) (unblocked_blocked fs)
 
 without_at_is : (cs : List Command) → without_at (block_of cs) ≡ blocked (map plain cs)
 without_at_is [] = refl
-without_at_is (c ∷ cs) = ap (λ b. then (command 0 (plain c)) b) (without_at_is cs)
+without_at_is (c ∷ cs) = ap (λ b. seq (command 0 (plain c)) b) (without_at_is cs)
 
 pub same_blocks : (a b : List Command) → map plain a ≡ map plain b → without_at (block_of a) ≡ without_at (block_of b)
 same_blocks a b e = without_at_is a ∙ ap blocked e ∙ sym (without_at_is b)

@@ -3,3 +3,12 @@ pub mod View
 pub mod Tokens
 pub mod Text
 pub mod Limits
+pub mod State
+pub mod Value
+pub mod Run
+pub mod Meets
+pub mod Relation
+pub mod Judgement
+pub mod Typed
+pub mod Projections
+pub mod TrueBundle

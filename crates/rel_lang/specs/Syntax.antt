@@ -32,7 +32,7 @@ mutual
   -- a list of commands
   pub data Block : Type 0 where
     done : Block
-    then : Cmd → Block → Block
+    seq : Cmd → Block → Block
 
 mutual
   pub data BiCmd : Type 0 where
@@ -44,7 +44,7 @@ mutual
 
   pub data BiBlock : Type 0 where
     bidone : BiBlock
-    bithen : BiCmd → BiBlock → BiBlock
+    biseq : BiCmd → BiBlock → BiBlock
 
 pub data Align : Type 0 where
   given : BiBlock → Align
@@ -117,4 +117,4 @@ abbrev mutual
 
   pub without_at : Block → Block
   without_at done = done
-  without_at (then c cs) = then (command_without_at c) (without_at cs)
+  without_at (seq c cs) = seq (command_without_at c) (without_at cs)

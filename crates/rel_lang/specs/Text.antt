@@ -1,8 +1,8 @@
 -- Which text stands for a bundle: its tokens are those that the grammar gives the bundle, and each tree's `at` is the byte where its tokens begin.
-use Rattle.std.specs.Prelude.{◌≡◌, ℕ, ℤ, pos, negsuc, ◌<◌, ◌^◌, Bool, true, false, IsTrue, List, [], ◌∷◌, ◌++◌, Some, codes}
+use Rattle.std.specs.Prelude.{◌≡◌, ℕ, ℤ, pos, negsuc, ◌<◌, IsTrue, List, [], ◌∷◌, ◌++◌, Some, codes}
 use Rattle.std.specs.Str.{IsUtf8}
 use Rattle.std.specs.Fmt.{signed_decimal}
-use Rattle.rel_lang.specs.Syntax.{Word, Type', int, Exp, var, num, add, sub, Frm, top, Rel, agree, Cmd, command, Form, assign, Block, done, then, BiCmd, bicommand, BiForm, split, BiBlock, bidone, bithen, Align, given, Decl, Effect, global, Clause, RelClause, Spec, Body, Proc, UnitItem, Judgement, Item, unit, judge, Bundle}
+use Rattle.rel_lang.specs.Syntax.{Word, Type', int, Exp, var, num, add, sub, Frm, top, Rel, agree, Cmd, command, Form, assign, Block, done, seq, BiCmd, bicommand, BiForm, split, BiBlock, bidone, biseq, Align, given, Decl, Effect, global, Clause, RelClause, Spec, Body, Proc, UnitItem, Judgement, Item, unit, judge, Bundle}
 use Rattle.rel_lang.specs.Tokens.{Token, tokens, is_name, literal_limit}
 
 -- ---- what the grammar gives
@@ -44,7 +44,7 @@ abbrev mutual
 
   pub show_commands : Block → List Mark
   show_commands done = []
-  show_commands (then c cs) = show_command c ++ word (codes ";") ∷ show_commands cs
+  show_commands (seq c cs) = show_command c ++ word (codes ";") ∷ show_commands cs
 
 abbrev pub show_block : Block → List Mark
 show_block b = word (codes "{") ∷ show_commands b ++ word (codes "}") ∷ []
@@ -58,7 +58,7 @@ abbrev mutual
 
   pub show_bicommands : BiBlock → List Mark
   show_bicommands bidone = []
-  show_bicommands (bithen c cs) = show_bicommand c ++ word (codes ";") ∷ show_bicommands cs
+  show_bicommands (biseq c cs) = show_bicommand c ++ word (codes ";") ∷ show_bicommands cs
 
 abbrev pub show_align : Align → List Mark
 show_align (given b) = word (codes "bi") ∷ word (codes "{") ∷ show_bicommands b ++ word (codes "}") ∷ []
@@ -162,7 +162,7 @@ abbrev mutual
 
   pub IsPrintableBlock : Block → Type 0
   IsPrintableBlock done = Unit {0}
-  IsPrintableBlock (then c cs) = IsPrintableCommand c × IsPrintableBlock cs
+  IsPrintableBlock (seq c cs) = IsPrintableCommand c × IsPrintableBlock cs
 
 abbrev mutual
   pub IsPrintableBiform : BiForm → Type 0
@@ -173,7 +173,7 @@ abbrev mutual
 
   pub IsPrintableBiblock : BiBlock → Type 0
   IsPrintableBiblock bidone = Unit {0}
-  IsPrintableBiblock (bithen c cs) = IsPrintableBicommand c × IsPrintableBiblock cs
+  IsPrintableBiblock (biseq c cs) = IsPrintableBicommand c × IsPrintableBiblock cs
 
 abbrev pub IsPrintableAlign : Align → Type 0
 IsPrintableAlign (given b) = IsPrintableBiblock b

@@ -1,5 +1,5 @@
 -- The tokens of a text.
-use Rattle.std.specs.Prelude.{ℕ, ◌+◌, ◌-◌, ◌^◌, ◌==◌, ◌&&◌, ◌||◌, nat_lt, nat_le, Bool, true, false, not, if◌then◌else◌, List, [], ◌∷◌, length, take, drop, Option, Some, None, option_map, codes, encode_utf8, nat_eq, take_while, bytes_eq}
+use Rattle.std.specs.Prelude.{ℕ, ◌+◌, ◌-◌, ◌^◌, ◌==◌, ◌&&◌, ◌||◌, nat_le, Bool, false, not, if◌then◌else◌, List, [], ◌∷◌, length, take, Option, Some, None, option_map, codes, encode_utf8, nat_eq, take_while, bytes_eq}
 use Rattle.std.specs.List.{list_any, list_all, starts_with}
 use Rattle.std.specs.Str.{encode_utf8_all, chars}
 use Rattle.std.specs.Str.Parse.{digits_value}

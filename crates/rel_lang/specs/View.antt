@@ -1,5 +1,5 @@
 -- The trees that the code's values stand for.
-use Rattle.std.specs.Prelude.{ℕ, List, [], ◌∷◌, map}
+use Rattle.std.specs.Prelude.{List, [], ◌∷◌, map}
 use Rattle.rel_lang.specs.declared.expr.Ty.{Ty}
 use Rattle.rel_lang.specs.declared.expr.Ty.TheVariants as T
 use Rattle.rel_lang.specs.declared.expr.Expr.{Expr, fold-Expr}
@@ -29,7 +29,7 @@ use Rattle.rel_lang.specs.declared.bundle.Judgement as J
 use Rattle.rel_lang.specs.declared.bundle.Item as I
 use Rattle.rel_lang.specs.declared.bundle.Item.TheVariants as IV
 use Rattle.rel_lang.specs.declared.bundle.Bundle as BB
-use Rattle.rel_lang.specs.Syntax.{Type', int, Exp, var, num, add, sub, Frm, top, Rel, agree, Cmd, command, Form, assign, Block, done, then, BiCmd, bicommand, BiForm, split, BiBlock, bidone, bithen, Align, given, Decl, Effect, global, Clause, RelClause, Spec, Body, Proc, UnitItem, Judgement, Item, unit, judge, Bundle}
+use Rattle.rel_lang.specs.Syntax.{Type', int, Exp, var, num, add, sub, Frm, top, Rel, agree, Cmd, command, Form, assign, Block, done, seq, BiCmd, bicommand, BiForm, split, BiBlock, bidone, biseq, Align, given, Decl, Effect, global, Clause, RelClause, Spec, Body, Proc, UnitItem, Judgement, Item, unit, judge, Bundle}
 
 abbrev pub type_of : Ty → Type'
 type_of T.Int = int
@@ -57,7 +57,7 @@ command_of c = command c.at (form_of c.form)
 
 abbrev pub block_of : List Command → Block
 block_of [] = done
-block_of (c ∷ cs) = then (command_of c) (block_of cs)
+block_of (c ∷ cs) = seq (command_of c) (block_of cs)
 
 abbrev pub biform_of : B.BiForm → BiForm
 biform_of (BV.Split l r) = split (block_of l) (block_of r)
@@ -67,7 +67,7 @@ bicommand_of c = bicommand c.at (biform_of c.form)
 
 abbrev pub biblock_of : List BiCommand → BiBlock
 biblock_of [] = bidone
-biblock_of (c ∷ cs) = bithen (bicommand_of c) (biblock_of cs)
+biblock_of (c ∷ cs) = biseq (bicommand_of c) (biblock_of cs)
 
 abbrev pub align_of : A.Align → Align
 align_of (AV.Given b) = given (biblock_of b)

@@ -1,0 +1,6 @@
+pub mod Form
+pub mod Obligation
+pub mod ProofFile
+pub mod Report
+pub mod Parts
+pub mod Scope
