@@ -1,7 +1,7 @@
 -- Commands and biprograms are read as they are spelled.
 use Rattle.std.proofs.Common.{◌≡◌, ℕ, zero, suc, ◌+◌, ◌≤◌, Bool, true, false, not, List, [], ◌∷◌, ◌++◌, length, refl, sym, ap, subst, ◌∙◌, append_assoc, arith}
 use Rattle.std.specs.Prelude.{codes}
-use Rattle.rel_lang.specs.Syntax.{Word, Exp, Cmd, command, Form, assign, Block, done, then, BiCmd, bicommand, BiForm, split, BiBlock, bidone, bithen, Align, given}
+use Rattle.rel_lang.specs.Syntax.{Word, Exp, Cmd, command, Form, assign, Block, done, seq, BiCmd, bicommand, BiForm, split, BiBlock, bidone, biseq, Align, given}
 use Rattle.rel_lang.specs.Text.{Mark, word, begins, show_exp, show_command, show_commands, show_block, show_bicommand, show_bicommands, show_align, IsName, IsPrintableExp, IsPrintableCommand, IsPrintableBlock, IsPrintableBicommand, IsPrintableBiblock, IsPrintableAlign}
 use Rattle.rel_lang.specs.Limits.{depth_of, FitsCommand, block_len, EachFitsIn, FitsBlock, FitsBicommand, biblock_len, EachBiFits, FitsAlign}
 use Rattle.rel_lexer.specs.declared.Token.{Token}
@@ -64,12 +64,12 @@ show_ended c = show_command c ++ word (codes ";") ∷ []
 
 list_of : Block → List Cmd
 list_of done = []
-list_of (then c cs) = c ∷ list_of cs
+list_of (seq c cs) = c ∷ list_of cs
 
 block_again : (b : Block) → block_from (list_of b) ≡ b
 unfolding list_of
 block_again done = refl
-block_again (then c cs) = ap (λ b. (then) c b) (block_again cs)
+block_again (seq c cs) = ap (λ b. seq c b) (block_again cs)
 
 list_again : (cs : List Cmd) → list_of (block_from cs) ≡ cs
 unfolding list_of
@@ -79,27 +79,27 @@ list_again (c ∷ cs) = ap (λ ds. c ∷ ds) (list_again cs)
 block_shown : (b : Block) → show_each show_ended (list_of b) ≡ show_commands b
 unfolding list_of
 block_shown done = refl
-block_shown (then c cs) = append_assoc (show_command c) (word (codes ";") ∷ []) (show_each show_ended (list_of cs)) ∙ ap (λ ms. show_command c ++ word (codes ";") ∷ ms) (block_shown cs)
+block_shown (seq c cs) = append_assoc (show_command c) (word (codes ";") ∷ []) (show_each show_ended (list_of cs)) ∙ ap (λ ms. show_command c ++ word (codes ";") ∷ ms) (block_shown cs)
 
 block_printable : (b : Block) → Each IsPrintableCommand (list_of b) → IsPrintableBlock b
 unfolding list_of
 block_printable done h = tt
-block_printable (then c cs) h = (h.0, block_printable cs h.1)
+block_printable (seq c cs) h = (h.0, block_printable cs h.1)
 
 printable_block : (b : Block) → IsPrintableBlock b → Each IsPrintableCommand (list_of b)
 unfolding list_of
 printable_block done h = tt
-printable_block (then c cs) h = (h.0, printable_block cs h.1)
+printable_block (seq c cs) h = (h.0, printable_block cs h.1)
 
 list_len : (b : Block) → length (list_of b) ≡ block_len b
 unfolding list_of
 list_len done = refl
-list_len (then c cs) = let h = list_len cs in omega arith
+list_len (seq c cs) = let h = list_len cs in omega arith
 
 each_fits : (depth : ℕ) (b : Block) → EachFitsIn depth b → Each (FitsCommand depth) (list_of b)
 unfolding list_of
 each_fits depth done h = tt
-each_fits depth (then c cs) h = (h.0, each_fits depth cs h.1)
+each_fits depth (seq c cs) h = (h.0, each_fits depth cs h.1)
 
 fitting_block : (depth : ℕ) (b : Block) → FitsBlock depth b → FitMany (FitsCommand depth) most (list_of b)
 fitting_block depth b h = (subst (λ n. n ≤ 16384) (sym (list_len b)) h.0, each_fits depth b h.1)
@@ -176,12 +176,12 @@ show_biended c = show_bicommand c ++ word (codes ";") ∷ []
 
 bilist_of : BiBlock → List BiCmd
 bilist_of bidone = []
-bilist_of (bithen c cs) = c ∷ bilist_of cs
+bilist_of (biseq c cs) = c ∷ bilist_of cs
 
 biblock_again : (b : BiBlock) → biblock_from (bilist_of b) ≡ b
 unfolding bilist_of
 biblock_again bidone = refl
-biblock_again (bithen c cs) = ap (bithen c) (biblock_again cs)
+biblock_again (biseq c cs) = ap (biseq c) (biblock_again cs)
 
 bilist_again : (cs : List BiCmd) → bilist_of (biblock_from cs) ≡ cs
 unfolding bilist_of
@@ -191,28 +191,28 @@ bilist_again (c ∷ cs) = ap (λ ds. c ∷ ds) (bilist_again cs)
 biblock_shown : (b : BiBlock) → show_each show_biended (bilist_of b) ≡ show_bicommands b
 unfolding bilist_of
 biblock_shown bidone = refl
-biblock_shown (bithen c cs) =
+biblock_shown (biseq c cs) =
     append_assoc (show_bicommand c) (word (codes ";") ∷ []) (show_each show_biended (bilist_of cs)) ∙ ap (λ ms. show_bicommand c ++ word (codes ";") ∷ ms) (biblock_shown cs)
 
 biblock_printable : (b : BiBlock) → Each IsPrintableBicommand (bilist_of b) → IsPrintableBiblock b
 unfolding bilist_of
 biblock_printable bidone h = tt
-biblock_printable (bithen c cs) h = (h.0, biblock_printable cs h.1)
+biblock_printable (biseq c cs) h = (h.0, biblock_printable cs h.1)
 
 printable_biblock : (b : BiBlock) → IsPrintableBiblock b → Each IsPrintableBicommand (bilist_of b)
 unfolding bilist_of
 printable_biblock bidone h = tt
-printable_biblock (bithen c cs) h = (h.0, printable_biblock cs h.1)
+printable_biblock (biseq c cs) h = (h.0, printable_biblock cs h.1)
 
 bilist_len : (b : BiBlock) → length (bilist_of b) ≡ biblock_len b
 unfolding bilist_of
 bilist_len bidone = refl
-bilist_len (bithen c cs) = let h = bilist_len cs in omega arith
+bilist_len (biseq c cs) = let h = bilist_len cs in omega arith
 
 each_bifits : (b : BiBlock) → EachBiFits b → Each FitsBicommand (bilist_of b)
 unfolding bilist_of
 each_bifits bidone h = tt
-each_bifits (bithen c cs) h = (h.0, each_bifits cs h.1)
+each_bifits (biseq c cs) h = (h.0, each_bifits cs h.1)
 
 abbrev FitsBiblock : BiBlock → Type 0
 FitsBiblock b = (biblock_len b ≤ 16384) × EachBiFits b

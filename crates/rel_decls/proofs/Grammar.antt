@@ -2,7 +2,7 @@
 use Rattle.std.proofs.Common.{◌≡◌, ℕ, zero, suc, ◌+◌, ◌≤◌, Bool, true, false, not, List, [], ◌∷◌, ◌++◌, length, Option, Some, None, refl, sym, ap, subst, ◌∙◌, append_assoc, arith}
 use Rattle.std.specs.Prelude.{codes}
 use Rattle.std.specs.Str.{bytes_eq}
-use Rattle.rel_lang.specs.Syntax.{Word, Type', int, Exp, Frm, top, Rel, agree, Cmd, command, Form, assign, Block, done, then, BiCmd, bicommand, BiForm, split, BiBlock, bidone, bithen, Align, given, Decl, Effect, global, Clause, RelClause}
+use Rattle.rel_lang.specs.Syntax.{Word, Type', int, Exp, Frm, top, Rel, agree, Cmd, command, Form, assign, Block, done, seq, BiCmd, bicommand, BiForm, split, BiBlock, bidone, biseq, Align, given, Decl, Effect, global, Clause, RelClause}
 use Rattle.rel_lang.specs.Text.{Mark, word, begins, show_type, show_exp, show_frm, show_rel, show_command, show_commands, show_block, show_bicommand, show_bicommands, show_align, show_decl, show_decls, show_more_params, show_params, show_effect, show_more_writes, show_writes, show_clause, show_rel_clause, IsName, IsPrintableExp, IsPrintableRel, IsPrintableCommand, IsPrintableBlock, IsPrintableBicommand, IsPrintableBiblock, IsPrintableAlign, ArePrintableDecls, ArePrintableWrites}
 use Rattle.rel_lang.specs.Tokens.{is_name}
 use Rattle.rel_lang.specs.Limits.{depth_of, AreFew, AreFewMore, FitsRel, FitsCommand, block_len, EachFitsIn, FitsBlock, FitsBicommand, biblock_len, EachBiFits, FitsAlign}

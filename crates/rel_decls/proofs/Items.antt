@@ -3,7 +3,7 @@ use Rattle.std.proofs.Common.{◌≡◌, ℕ, zero, suc, ◌+◌, ◌≤◌, Boo
 use Rattle.std.specs.Prelude.{codes}
 use Rattle.std.specs.Str.{chars}
 use Rattle.std.proofs.lemmas.Bool.{not-false}
-use Rattle.rel_lang.specs.Syntax.{Word, Type', Cmd, command, assign, Block, done, then, Align, Decl, Effect, Clause, RelClause, Spec, Body, Proc, UnitItem, Judgement, Item, unit, judge, Bundle}
+use Rattle.rel_lang.specs.Syntax.{Word, Type', Cmd, command, assign, Block, done, seq, Align, Decl, Effect, Clause, RelClause, Spec, Body, Proc, UnitItem, Judgement, Item, unit, judge, Bundle}
 use Rattle.rel_lang.specs.Tokens.{has_name_form, is_name}
 use Rattle.rel_lang.specs.Text.{Mark, word, begins, show_type, show_exp, show_commands, show_decls, show_params, show_writes, show_clause, show_rel_clause, show_align, show_spec, show_body, show_proc, show_procs, show_unit, show_judgement, show_item, show_items, show_tokens, IsName, IsPrintableRel, IsPrintableBlock, IsPrintableAlign, ArePrintableDecls, ArePrintableWrites, IsPrintableProc, ArePrintableProcs, IsPrintableUnit, IsPrintableJudgement, IsPrintableItem, ArePrintableItems, IsPrintable}
 use Rattle.rel_lang.specs.Limits.{AreFew, AreFewMore, FitsRel, FitsBlock, FitsAlign, FitsProc, FitProcs, FitsUnit, FitsJudgement, FitsItem, FitItems, Fits}
@@ -48,7 +48,7 @@ brace_next ts e = not-false (is_next (codes "}") ts) e
 -- a list of commands begins with a name, or the brace stands there
 no_var : Follows show_commands IsPrintableBlock (λ rest. is_before (codes "}") rest ≡ false) (λ ts. is_next (codes "var") ts ≡ false)
 no_var ts rest done b h s = other_next (codes "}") (codes "var") ts refl (subst (λ us. is_next (codes "}") us ≡ true) (sym b) (brace_next rest s))
-no_var ts rest ((then) (command at (assign x e)) cs) b h s =
+no_var ts rest (seq (command at (assign x e)) cs) b h s =
     name_differs (codes "var") (record { text = x; ats = at ∷ [] }) ((word (codes ":=") ∷ show_exp e) ++ (word (codes ";") ∷ show_commands cs)) ts rest var_is_no_name b h.0.0
 
 abbrev Content : Type 0

@@ -2,7 +2,7 @@
 use Rattle.std.proofs.Common.{◌≡◌, ℕ, zero, suc, ◌+◌, ◌-◌, ◌<◌, ◌≤◌, Bool, true, false, if◌then◌else◌, List, [], ◌∷◌, ◌++◌, length, map, eqb, Option, Some, None, refl, sym, ap, subst, ◌∙◌, append_assoc, arith}
 use Rattle.std.proofs.lemmas.Bool.{true≢false, ne_eqb}
 use Rattle.std.proofs.lemmas.List.{append-nil, map_push}
-use Rattle.rel_lang.specs.Syntax.{Block, then, bithen}
+use Rattle.rel_lang.specs.Syntax.{Block, seq, biseq}
 use Rattle.rel_lang.specs.View.{command_of, block_of, bicommand_of, biblock_of}
 use Rattle.rel_lang.specs.declared.command.Command.{Command}
 use Rattle.rel_lang.specs.declared.biprogram.BiCommand.{BiCommand}
@@ -92,7 +92,7 @@ fails_then faults.Refused read f h = rw h refl
 
 pub block_is : (cs : List Command) → block_from (map command_of cs) ≡ block_of cs
 block_is [] = refl
-block_is (c ∷ cs) = ap (λ b. (then) (command_of c) b) (block_is cs)
+block_is (c ∷ cs) = ap (λ b. seq (command_of c) b) (block_is cs)
 
 pub commands_found : (depth : ℕ) (ts rest : List Token) (cs : List Command) → several_commands_at depth ts ≡ Some (map command_of cs, rest) → commands_at depth ts ≡ Some (block_of cs, rest)
 unfolding commands_at
@@ -104,7 +104,7 @@ commands_fail depth ts e h = fails_then e (several_commands_at depth ts) (λ x. 
 
 pub biblock_is : (cs : List BiCommand) → biblock_from (map bicommand_of cs) ≡ biblock_of cs
 biblock_is [] = refl
-biblock_is (c ∷ cs) = ap (bithen (bicommand_of c)) (biblock_is cs)
+biblock_is (c ∷ cs) = ap (biseq (bicommand_of c)) (biblock_is cs)
 
 pub bicommands_found : (ts rest : List Token) (cs : List BiCommand) → several_bicommands_at ts ≡ Some (map bicommand_of cs, rest) → bicommands_at ts ≡ Some (biblock_of cs, rest)
 unfolding bicommands_at

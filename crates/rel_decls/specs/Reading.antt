@@ -1,6 +1,6 @@
 -- How the first of some tokens are read as a tree, from left to right.
 use Rattle.std.specs.Prelude.{◌≡◌, ℕ, zero, suc, Bool, true, false, not, List, [], ◌∷◌, ◌++◌, Option, Some, None, Result, Ok, Err, if◌then◌else◌, codes, bytes_eq}
-use Rattle.rel_lang.specs.Syntax.{Word, Type', int, Exp, var, num, add, sub, Frm, top, Rel, agree, Cmd, command, Form, assign, Block, done, then, BiCmd, bicommand, BiForm, split, BiBlock, bidone, bithen, Align, given, Decl, Effect, global, Clause, RelClause, Spec, Body, Proc, UnitItem, Judgement, Item, unit, judge, Bundle}
+use Rattle.rel_lang.specs.Syntax.{Word, Type', int, Exp, var, num, add, sub, Frm, top, Rel, agree, Cmd, command, Form, assign, Block, done, seq, BiCmd, bicommand, BiForm, split, BiBlock, bidone, biseq, Align, given, Decl, Effect, global, Clause, RelClause, Spec, Body, Proc, UnitItem, Judgement, Item, unit, judge, Bundle}
 use Rattle.rel_lexer.specs.declared.Token.{Token}
 use Rattle.rel_lexer.specs.declared.Kind.{Kind}
 use Rattle.rel_lexer.specs.declared.Kind.TheVariants as kind
@@ -159,7 +159,7 @@ several_commands_at depth = many_at (is_before (codes "}")) (before (codes ";") 
 
 abbrev pub block_from : List Cmd → Block
 block_from [] = done
-block_from (c ∷ cs) = (then) c (block_from cs)
+block_from (c ∷ cs) = seq c (block_from cs)
 
 unfoldable pub commands_at : ℕ → Reader Block
 commands_at depth = made block_from (several_commands_at depth)
@@ -176,7 +176,7 @@ several_bicommands_at = many_at (is_before (codes "}")) (before (codes ";") bico
 
 abbrev pub biblock_from : List BiCmd → BiBlock
 biblock_from [] = bidone
-biblock_from (c ∷ cs) = bithen c (biblock_from cs)
+biblock_from (c ∷ cs) = biseq c (biblock_from cs)
 
 unfoldable pub bicommands_at : Reader BiBlock
 bicommands_at = made biblock_from several_bicommands_at

@@ -1,7 +1,7 @@
 -- How deep the trees of a bundle may be, and how many may stand in a row. A tree is one deeper than the nearest of its kind that holds it: an
 -- expression, a relation formula, a command or a bicommand, each at most 64 deep.
 use Rattle.std.specs.Prelude.{ℕ, ◌+◌, ◌≤◌, max, List, [], ◌∷◌, length}
-use Rattle.rel_lang.specs.Syntax.{Exp, var, num, add, sub, Rel, agree, Cmd, command, Form, assign, Block, done, then, BiCmd, bicommand, BiForm, split, BiBlock, bidone, bithen, Align, given, Proc, UnitItem, Judgement, Item, unit, judge, Bundle}
+use Rattle.rel_lang.specs.Syntax.{Exp, var, num, add, sub, Rel, agree, Cmd, command, Form, assign, Block, done, seq, BiCmd, bicommand, BiForm, split, BiBlock, bidone, biseq, Align, given, Proc, UnitItem, Judgement, Item, unit, judge, Bundle}
 
 abbrev pub depth_of : Exp → ℕ
 depth_of (var x) = 1
@@ -26,11 +26,11 @@ FitsCommand depth (command at (assign x e)) = depth_of e ≤ depth
 
 abbrev pub block_len : Block → ℕ
 block_len done = 0
-block_len (then c cs) = 1 + block_len cs
+block_len (seq c cs) = 1 + block_len cs
 
 abbrev pub EachFitsIn : ℕ → Block → Type 0
 EachFitsIn depth done = Unit {0}
-EachFitsIn depth (then c cs) = FitsCommand depth c × EachFitsIn depth cs
+EachFitsIn depth (seq c cs) = FitsCommand depth c × EachFitsIn depth cs
 
 abbrev pub FitsBlock : ℕ → Block → Type 0
 FitsBlock depth b = (block_len b ≤ 16384) × EachFitsIn depth b
@@ -40,11 +40,11 @@ FitsBicommand (bicommand at (split l r)) = FitsBlock 62 l × FitsBlock 62 r
 
 abbrev pub biblock_len : BiBlock → ℕ
 biblock_len bidone = 0
-biblock_len (bithen c cs) = 1 + biblock_len cs
+biblock_len (biseq c cs) = 1 + biblock_len cs
 
 abbrev pub EachBiFits : BiBlock → Type 0
 EachBiFits bidone = Unit {0}
-EachBiFits (bithen c cs) = FitsBicommand c × EachBiFits cs
+EachBiFits (biseq c cs) = FitsBicommand c × EachBiFits cs
 
 abbrev pub FitsAlign : Align → Type 0
 FitsAlign (given b) = (biblock_len b ≤ 16384) × EachBiFits b
