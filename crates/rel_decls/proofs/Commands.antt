@@ -1,13 +1,13 @@
 -- Commands and biprograms are read as they are spelled.
-use Rattle.std.proofs.Common.{◌≡◌, ℕ, zero, suc, ◌+◌, ◌≤◌, Bool, true, false, not, List, [], ◌∷◌, ◌++◌, length, refl, sym, ap, subst, ◌∙◌, append_assoc, arith}
+use Rattle.std.proofs.Common.{◌≡◌, ℕ, ◌≤◌, true, false, List, [], ◌∷◌, ◌++◌, length, refl, sym, ap, subst, ◌∙◌, append_assoc, arith}
 use Rattle.std.specs.Prelude.{codes}
-use Rattle.rel_lang.specs.Syntax.{Word, Exp, Cmd, command, Form, assign, Block, done, seq, BiCmd, bicommand, BiForm, split, BiBlock, bidone, biseq, Align, given}
+use Rattle.rel_lang.specs.Syntax.{Word, Exp, Cmd, command, assign, Block, done, seq, BiCmd, bicommand, split, BiBlock, bidone, biseq, Align, given}
 use Rattle.rel_lang.specs.Text.{Mark, word, begins, show_exp, show_command, show_commands, show_block, show_bicommand, show_bicommands, show_align, IsName, IsPrintableExp, IsPrintableCommand, IsPrintableBlock, IsPrintableBicommand, IsPrintableBiblock, IsPrintableAlign}
 use Rattle.rel_lang.specs.Limits.{depth_of, FitsCommand, block_len, EachFitsIn, FitsBlock, FitsBicommand, biblock_len, EachBiFits, FitsAlign}
 use Rattle.rel_lexer.specs.declared.Token.{Token}
-use Rattle.rel_decls.specs.Reading.{is_next, is_before, command_at, commands_at, block_from, block_at, bicommand_at, bicommands_at, biblock_from, align_at, most}
+use Rattle.rel_decls.specs.Reading.{is_before, command_at, commands_at, block_from, block_at, bicommand_at, bicommands_at, biblock_from, align_at, most}
 use Rattle.rel_decls.proofs.Kinding.{brace_is_no_name}
-use Rattle.rel_decls.proofs.Laws.{Begins, Reads, Always, HasFirst, reads_as, made_reads, both_reads, after_reads, before_reads, placed_reads, name_reads}
+use Rattle.rel_decls.proofs.Laws.{Begins, Reads, Always, reads_as, made_reads, both_reads, after_reads, before_reads, placed_reads, name_reads}
 use Rattle.rel_decls.proofs.Several.{show_each, Each, FitMany, many_reads, next_is, next_is_not}
 use Rattle.rel_decls.proofs.Expressions.{exp_reads}
 use Rattle.rel_decls.proofs.Grammar.{name_differs}

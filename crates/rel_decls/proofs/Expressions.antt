@@ -1,18 +1,18 @@
 -- Expressions are read as they are spelled.
-use Rattle.std.proofs.Common.{◌≡◌, ℕ, zero, suc, ◌+◌, ◌^◌, ◌<◌, ◌≤◌, max, Bool, true, false, if◌then◌else◌, List, [], ◌∷◌, ◌++◌, Option, Some, None, ℤ, pos, negsuc, refl, sym, ap, subst, ◌∙◌, ◌⊎◌, inl, inr, arith}
+use Rattle.std.proofs.Common.{◌≡◌, ℕ, zero, suc, ◌+◌, ◌^◌, ◌<◌, ◌≤◌, max, Bool, true, false, if◌then◌else◌, List, [], ◌∷◌, ◌++◌, Option, Some, None, pos, negsuc, refl, sym, ap, subst, ◌∙◌, ◌⊎◌, inl, inr, arith}
 use Rattle.std.specs.Prelude.{codes}
 use Rattle.std.specs.Str.{bytes_eq}
-use Rattle.std.specs.Fmt.{decimal, signed_decimal}
+use Rattle.std.specs.Fmt.{decimal}
 use Rattle.std.proofs.lemmas.Option.{none-some}
 use Rattle.rel_lang.specs.Syntax.{Exp, var, num, add, sub}
 use Rattle.rel_lang.specs.Tokens.{is_reserved, is_name, is_number}
-use Rattle.rel_lang.specs.Text.{Mark, word, show_exp, IsName, IsLiteral, IsPrintableExp}
+use Rattle.rel_lang.specs.Text.{Mark, word, show_exp, IsName, IsPrintableExp}
 use Rattle.rel_lang.specs.Limits.{depth_of}
 use Rattle.rel_lexer.specs.declared.Token.{Token}
 use Rattle.rel_lexer.specs.declared.Kind.{Kind}
 use Rattle.rel_lexer.specs.declared.Kind.TheVariants as kind
 use Rattle.rel_lexer.specs.Tokens.{HasKind, IsOfKind}
-use Rattle.rel_decls.specs.Reading.{◌>>=◌, Reader, sign_at, join, parts_at, pair_at, exp_by, exp_at}
+use Rattle.rel_decls.specs.Reading.{Reader, sign_at, join, parts_at, pair_at, exp_by, exp_at}
 use Rattle.rel_decls.proofs.Kinding.{kind_of_name, kind_of_number, kind_of_symbol, low_is_no_name}
 use Rattle.rel_decls.proofs.Laws.{Begins, HaveKinds, bind_some, some_is, pair_is, text_same, same_text, Meets, Meets-then, Meets-weaker, Meets-is, Reads, Always, both_reads, before_reads}
 

@@ -1,16 +1,16 @@
 -- Declarations, formulas and commands are read as they are spelled.
-use Rattle.std.proofs.Common.{◌≡◌, ℕ, zero, suc, ◌+◌, ◌≤◌, Bool, true, false, not, List, [], ◌∷◌, ◌++◌, length, Option, Some, None, refl, sym, ap, subst, ◌∙◌, append_assoc, arith}
+use Rattle.std.proofs.Common.{◌≡◌, ◌≤◌, false, List, [], ◌∷◌, ◌++◌, refl, ap, subst, ◌∙◌, arith}
 use Rattle.std.specs.Prelude.{codes}
 use Rattle.std.specs.Str.{bytes_eq}
-use Rattle.rel_lang.specs.Syntax.{Word, Type', int, Exp, Frm, top, Rel, agree, Cmd, command, Form, assign, Block, done, seq, BiCmd, bicommand, BiForm, split, BiBlock, bidone, biseq, Align, given, Decl, Effect, global, Clause, RelClause}
-use Rattle.rel_lang.specs.Text.{Mark, word, begins, show_type, show_exp, show_frm, show_rel, show_command, show_commands, show_block, show_bicommand, show_bicommands, show_align, show_decl, show_decls, show_more_params, show_params, show_effect, show_more_writes, show_writes, show_clause, show_rel_clause, IsName, IsPrintableExp, IsPrintableRel, IsPrintableCommand, IsPrintableBlock, IsPrintableBicommand, IsPrintableBiblock, IsPrintableAlign, ArePrintableDecls, ArePrintableWrites}
+use Rattle.rel_lang.specs.Syntax.{Word, Type', int, Exp, Frm, top, Rel, agree, Decl, Effect, global, Clause, RelClause}
+use Rattle.rel_lang.specs.Text.{Mark, word, show_type, show_exp, show_frm, show_rel, show_decl, show_decls, show_more_params, show_params, show_effect, show_more_writes, show_writes, show_clause, show_rel_clause, IsName, IsPrintableExp, IsPrintableRel, ArePrintableDecls, ArePrintableWrites}
 use Rattle.rel_lang.specs.Tokens.{is_name}
-use Rattle.rel_lang.specs.Limits.{depth_of, AreFew, AreFewMore, FitsRel, FitsCommand, block_len, EachFitsIn, FitsBlock, FitsBicommand, biblock_len, EachBiFits, FitsAlign}
+use Rattle.rel_lang.specs.Limits.{depth_of, AreFew, AreFewMore, FitsRel}
 use Rattle.rel_lexer.specs.declared.Token.{Token}
-use Rattle.rel_decls.specs.Reading.{is_next, is_before, before, after, name_at, exp_at, type_at, decl_at, decls_at, params_at, effect_at, effects_at, frm_at, rel_at, clause_at, rel_clause_at, command_at, several_commands_at, commands_at, block_from, block_at, bicommand_at, several_bicommands_at, bicommands_at, biblock_from, align_at, most}
+use Rattle.rel_decls.specs.Reading.{is_next, type_at, decl_at, decls_at, params_at, effect_at, effects_at, frm_at, rel_at, clause_at, rel_clause_at, most}
 use Rattle.rel_decls.proofs.Kinding.{low_is_no_name, brace_is_no_name, decided, clash}
-use Rattle.rel_decls.proofs.Laws.{Begins, HaveKinds, Reads, Always, Follows, HasFirst, same_text, text_same, reads_as, made_reads, both_reads, after_reads, before_reads, means_reads, placed_reads, name_reads}
-use Rattle.rel_decls.proofs.Several.{show_each, Each, FitMany, Starts, many_reads, NextIs, listed_reads, show_listed, next_is, next_is_not}
+use Rattle.rel_decls.proofs.Laws.{Begins, Reads, Always, HasFirst, same_text, reads_as, made_reads, both_reads, after_reads, before_reads, means_reads, placed_reads, name_reads}
+use Rattle.rel_decls.proofs.Several.{show_each, Each, many_reads, NextIs, listed_reads, show_listed, next_is}
 use Rattle.rel_decls.proofs.Expressions.{exp_reads}
 
 -- ---- declarations

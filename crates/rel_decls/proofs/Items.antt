@@ -1,16 +1,16 @@
 -- Procedures, units, judgements and bundles are read as they are spelled.
-use Rattle.std.proofs.Common.{◌≡◌, ℕ, zero, suc, ◌+◌, ◌≤◌, Bool, true, false, not, ◌&&◌, if◌then◌else◌, List, [], ◌∷◌, ◌++◌, length, Option, Some, None, refl, sym, ap, subst, ◌∙◌, ◌⊎◌, inl, inr, arith}
+use Rattle.std.proofs.Common.{◌≡◌, ℕ, Bool, true, false, ◌&&◌, List, [], ◌∷◌, ◌++◌, Some, refl, sym, ap, subst, inl, inr}
 use Rattle.std.specs.Prelude.{codes}
 use Rattle.std.specs.Str.{chars}
 use Rattle.std.proofs.lemmas.Bool.{not-false}
-use Rattle.rel_lang.specs.Syntax.{Word, Type', Cmd, command, assign, Block, done, seq, Align, Decl, Effect, Clause, RelClause, Spec, Body, Proc, UnitItem, Judgement, Item, unit, judge, Bundle}
+use Rattle.rel_lang.specs.Syntax.{Word, Type', command, assign, Block, done, seq, Align, Decl, Clause, RelClause, Spec, Proc, UnitItem, Judgement, Item, unit, judge, Bundle}
 use Rattle.rel_lang.specs.Tokens.{has_name_form, is_name}
-use Rattle.rel_lang.specs.Text.{Mark, word, begins, show_type, show_exp, show_commands, show_decls, show_params, show_writes, show_clause, show_rel_clause, show_align, show_spec, show_body, show_proc, show_procs, show_unit, show_judgement, show_item, show_items, show_tokens, IsName, IsPrintableRel, IsPrintableBlock, IsPrintableAlign, ArePrintableDecls, ArePrintableWrites, IsPrintableProc, ArePrintableProcs, IsPrintableUnit, IsPrintableJudgement, IsPrintableItem, ArePrintableItems, IsPrintable}
-use Rattle.rel_lang.specs.Limits.{AreFew, AreFewMore, FitsRel, FitsBlock, FitsAlign, FitsProc, FitProcs, FitsUnit, FitsJudgement, FitsItem, FitItems, Fits}
+use Rattle.rel_lang.specs.Text.{Mark, word, show_type, show_exp, show_commands, show_decls, show_params, show_writes, show_clause, show_rel_clause, show_align, show_spec, show_body, show_proc, show_procs, show_unit, show_judgement, show_item, show_items, show_tokens, IsName, IsPrintableBlock, ArePrintableDecls, ArePrintableWrites, IsPrintableProc, ArePrintableProcs, IsPrintableUnit, IsPrintableJudgement, IsPrintableItem, ArePrintableItems, IsPrintable}
+use Rattle.rel_lang.specs.Limits.{AreFew, AreFewMore, FitsBlock, FitsProc, FitProcs, FitsUnit, FitsJudgement, FitsItem, FitItems, Fits}
 use Rattle.rel_lexer.specs.declared.Token.{Token}
-use Rattle.rel_decls.specs.Reading.{◌>>=◌, is_next, is_before, is_more, made, clauses_at, writes_at, spec_at, body_at, head_at, result_at, proc_at, proc_from, procs_at, front_at, unit_at, path_at, title_at, judgement_at, judgement_from, item_at, items_at, bundle_at, most}
+use Rattle.rel_decls.specs.Reading.{is_next, is_before, is_more, made, clauses_at, writes_at, spec_at, body_at, head_at, result_at, proc_at, proc_from, procs_at, front_at, unit_at, path_at, title_at, judgement_at, judgement_from, item_at, items_at, bundle_at, most}
 use Rattle.rel_decls.proofs.Laws.{Begins, HaveKinds, bind_some, some_is, Meets, Meets-then, Reads, Always, Follows, reads_as, made_reads, both_reads, after_reads, before_reads, placed_reads, name_reads}
-use Rattle.rel_decls.proofs.Several.{show_each, Each, FitMany, many_reads, many_stops, NextIs, next_is, next_is_not, other_next, cond_cases, when_true, when_false}
+use Rattle.rel_decls.proofs.Several.{show_each, Each, many_reads, many_stops, NextIs, next_is, next_is_not, other_next, cond_cases, when_true, when_false}
 use Rattle.rel_decls.proofs.Grammar.{type_reads, decls_reads, params_reads, effects_reads, clause_reads, rel_clause_reads, name_differs}
 use Rattle.rel_decls.proofs.Commands.{commands_reads, align_reads, not_before}
 

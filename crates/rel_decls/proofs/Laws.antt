@@ -1,5 +1,5 @@
 -- What a reader takes is spelled so, and what is spelled so is taken; and both last when readers are put together.
-use Rattle.std.proofs.Common.{◌≡◌, ℕ, zero, suc, ◌≤◌, Bool, true, false, not, if◌then◌else◌, List, [], ◌∷◌, ◌++◌, length, Option, Some, None, refl, sym, ap, subst, ◌∙◌, arith}
+use Rattle.std.proofs.Common.{◌≡◌, ℕ, Bool, true, false, if◌then◌else◌, List, [], ◌∷◌, ◌++◌, Option, Some, None, refl, sym, ap, subst}
 use Rattle.std.specs.Str.{bytes_eq}
 use Rattle.std.proofs.lemmas.Slice.Eq.{bytes_eq-Decides}
 use Rattle.rel_lang.specs.Syntax.{Word}
@@ -8,7 +8,7 @@ use Rattle.rel_lexer.specs.declared.Token.{Token}
 use Rattle.rel_lexer.specs.declared.Kind.{Kind}
 use Rattle.rel_lexer.specs.declared.Kind.TheVariants as kind
 use Rattle.rel_lexer.specs.Tokens.{HasKind}
-use Rattle.rel_decls.specs.Reading.{◌>>=◌, Reader, first_at, expect_at, is_next, place_at, means, made, both, after, before, placed, name_at, is_name_kind}
+use Rattle.rel_decls.specs.Reading.{◌>>=◌, Reader, expect_at, means, made, both, after, before, placed, name_at, is_name_kind}
 use Rattle.rel_decls.proofs.Kinding.{name_is, kind_of_name}
 
 -- ---- what the first tokens spell

@@ -1,8 +1,8 @@
 -- Reading trees one after the other, as a loop does.
-use Rattle.std.proofs.Common.{◌≡◌, ℕ, zero, suc, ◌+◌, ◌-◌, ◌<◌, ◌≤◌, Bool, true, false, if◌then◌else◌, List, [], ◌∷◌, ◌++◌, length, map, eqb, Option, Some, None, refl, sym, ap, subst, ◌∙◌, append_assoc, arith}
+use Rattle.std.proofs.Common.{◌≡◌, ℕ, zero, suc, ◌+◌, ◌-◌, ◌<◌, ◌≤◌, Bool, true, false, if◌then◌else◌, List, [], ◌∷◌, ◌++◌, length, map, eqb, Option, Some, None, refl, sym, ap, ◌∙◌, append_assoc, arith}
 use Rattle.std.proofs.lemmas.Bool.{true≢false, ne_eqb}
 use Rattle.std.proofs.lemmas.List.{append-nil, map_push}
-use Rattle.rel_lang.specs.Syntax.{Block, seq, biseq}
+use Rattle.rel_lang.specs.Syntax.{seq, biseq}
 use Rattle.rel_lang.specs.View.{command_of, block_of, bicommand_of, biblock_of}
 use Rattle.rel_lang.specs.declared.command.Command.{Command}
 use Rattle.rel_lang.specs.declared.biprogram.BiCommand.{BiCommand}

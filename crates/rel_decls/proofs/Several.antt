@@ -1,12 +1,12 @@
 -- Readers of trees one after the other.
-use Rattle.std.proofs.Common.{◌≡◌, ℕ, zero, suc, ◌≤◌, Bool, true, false, not, if◌then◌else◌, List, [], ◌∷◌, ◌++◌, length, Option, Some, None, refl, sym, ap, subst, ◌∙◌, ◌⊎◌, inl, inr, arith}
+use Rattle.std.proofs.Common.{◌≡◌, ℕ, zero, suc, ◌≤◌, Bool, true, false, if◌then◌else◌, List, [], ◌∷◌, ◌++◌, length, Option, Some, None, refl, sym, ap, subst, ◌∙◌, ◌⊎◌, inl, inr, arith}
 use Rattle.std.specs.Prelude.{codes}
 use Rattle.std.specs.Str.{bytes_eq}
 use Rattle.rel_lang.specs.Syntax.{Word}
 use Rattle.rel_lang.specs.Text.{Mark, word}
 use Rattle.rel_lexer.specs.declared.Token.{Token}
 use Rattle.rel_decls.specs.Reading.{◌>>=◌, Reader, is_next, after, with_front, more_at, many_at, listed_at}
-use Rattle.rel_decls.proofs.Laws.{Begins, HaveKinds, Begins-append, Begins-split, kinds_behind, bind_some, some_is, text_same, same_text, Meets, Meets-then, Meets-weaker, Meets-is, Reads, Always, Follows, after_reads}
+use Rattle.rel_decls.proofs.Laws.{Begins, HaveKinds, Begins-append, Begins-split, kinds_behind, bind_some, some_is, text_same, same_text, Meets, Meets-then, Meets-weaker, Meets-is, Reads, Always, after_reads}
 
 abbrev pub show_each : {A : Type 0} → (A → List Mark) → List A → List Mark
 show_each show [] = []

@@ -1,6 +1,6 @@
 -- How the first of some tokens are read as a tree, from left to right.
 use Rattle.std.specs.Prelude.{◌≡◌, ℕ, zero, suc, Bool, true, false, not, List, [], ◌∷◌, ◌++◌, Option, Some, None, Result, Ok, Err, if◌then◌else◌, codes, bytes_eq}
-use Rattle.rel_lang.specs.Syntax.{Word, Type', int, Exp, var, num, add, sub, Frm, top, Rel, agree, Cmd, command, Form, assign, Block, done, seq, BiCmd, bicommand, BiForm, split, BiBlock, bidone, biseq, Align, given, Decl, Effect, global, Clause, RelClause, Spec, Body, Proc, UnitItem, Judgement, Item, unit, judge, Bundle}
+use Rattle.rel_lang.specs.Syntax.{Word, Type', int, Exp, var, num, add, sub, Frm, top, Rel, agree, Cmd, command, assign, Block, done, seq, BiCmd, bicommand, split, BiBlock, bidone, biseq, Align, given, Decl, Effect, global, Clause, RelClause, Spec, Proc, UnitItem, Judgement, Item, unit, judge, Bundle}
 use Rattle.rel_lexer.specs.declared.Token.{Token}
 use Rattle.rel_lexer.specs.declared.Kind.{Kind}
 use Rattle.rel_lexer.specs.declared.Kind.TheVariants as kind

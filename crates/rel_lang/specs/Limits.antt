@@ -1,7 +1,7 @@
 -- How deep the trees of a bundle may be, and how many may stand in a row. A tree is one deeper than the nearest of its kind that holds it: an
 -- expression, a relation formula, a command or a bicommand, each at most 64 deep.
 use Rattle.std.specs.Prelude.{ℕ, ◌+◌, ◌≤◌, max, List, [], ◌∷◌, length}
-use Rattle.rel_lang.specs.Syntax.{Exp, var, num, add, sub, Rel, agree, Cmd, command, Form, assign, Block, done, seq, BiCmd, bicommand, BiForm, split, BiBlock, bidone, biseq, Align, given, Proc, UnitItem, Judgement, Item, unit, judge, Bundle}
+use Rattle.rel_lang.specs.Syntax.{Exp, var, num, add, sub, Rel, agree, Cmd, command, assign, Block, done, seq, BiCmd, bicommand, split, BiBlock, bidone, biseq, Align, given, Proc, UnitItem, Judgement, Item, unit, judge, Bundle}
 
 abbrev pub depth_of : Exp → ℕ
 depth_of (var x) = 1

@@ -1,4 +1,4 @@
-use Rattle.std.proofs.Common.{◌-◌, map, [], ◌∷◌}
+use Rattle.std.proofs.Common.{◌-◌, map}
 use Rattle.std.specs.Prelude.{codes}
 use Rattle.rel_lang.specs.View.{decl_of}
 use Rattle.rel_decls.specs.Reading.{most, is_next, before, after, decl_at, decls_at}

@@ -1,4 +1,3 @@
-use Rattle.std.proofs.Common.{refl}
 use Rattle.std.proofs.lemmas.Result.{err_from_is_err_and}
 use Rattle.rel_lang.specs.View.{item_of}
 use Rattle.rel_decls.proofs.Loop.{goes_on, fails, is_full, ended, begun, not_empty, empty}

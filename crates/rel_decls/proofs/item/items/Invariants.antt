@@ -1,5 +1,4 @@
-use Rattle.std.proofs.Common.{◌-◌, map, [], ◌∷◌}
-use Rattle.std.specs.Prelude.{codes}
+use Rattle.std.proofs.Common.{◌-◌, map}
 use Rattle.rel_lang.specs.View.{item_of}
 use Rattle.rel_decls.specs.Reading.{most, is_more, item_at, items_at}
 use Rattle.rel_decls.proofs.Loop.{SoFar}

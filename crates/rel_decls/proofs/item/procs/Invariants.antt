@@ -1,7 +1,7 @@
-use Rattle.std.proofs.Common.{◌-◌, map, [], ◌∷◌}
+use Rattle.std.proofs.Common.{◌-◌, map}
 use Rattle.std.specs.Prelude.{codes}
 use Rattle.rel_lang.specs.View.{proc_of}
-use Rattle.rel_decls.specs.Reading.{most, is_before, before, proc_at, procs_at}
+use Rattle.rel_decls.specs.Reading.{most, is_before, proc_at, procs_at}
 use Rattle.rel_decls.proofs.Loop.{SoFar}
 use Rattle.rel_decls.proofs.item.procs.Given as goal
 
