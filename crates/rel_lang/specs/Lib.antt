@@ -2,6 +2,7 @@ pub mod Syntax
 pub mod View
 pub mod Tokens
 pub mod Text
+pub mod Limits
 pub mod State
 pub mod Value
 pub mod Run

@@ -1,0 +1,10 @@
+pub mod Depth
+pub mod Laws
+pub mod Kinding
+pub mod Several
+pub mod Loop
+pub mod Expressions
+pub mod Grammar
+pub mod Commands
+pub mod Items
+pub mod Standing
