@@ -1,5 +1,6 @@
 -- From an accepted derivation to a text that stands for true bundles alone.
-use Rattle.std.proofs.Common.{◌≡◌, ℕ, List, subst}
+use Rattle.std.proofs.Common.{◌≡◌, ℕ, List, [], ◌∷◌, codes, subst}
+use Rattle.rel_io.specs.Told.{Told}
 use Rattle.rel_lang.specs.declared.bundle.Bundle.{Bundle}
 use Rattle.rel_lang.specs.Syntax as L
 use Rattle.rel_lang.specs.Text.{StandsFor}
@@ -10,7 +11,7 @@ use Rattle.rel_logic.specs.Truth.{IsValid}
 use Rattle.rel_logic.specs.View.{sequent_of}
 use Rattle.rel_top.specs.declared.form.Parts.{Parts}
 use Rattle.rel_top.specs.Form.{HasForm}
-use Rattle.rel_top.specs.Judged.{IsObligation, IsProved, IsEnough, IsJudgedTrue}
+use Rattle.rel_top.specs.Judged.{WhereTold, IsYes, IsObligation, IsProved, IsEnough, IsJudgedTrue}
 use Rattle.rel_top.specs.Obligation.{obligation_of}
 use Rattle.rel_top.specs.Parts.{parts_view}
 use Rattle.rel_top.proofs.TrueBundles.{true_bundle}
@@ -40,3 +41,9 @@ only_true_bundles text b stands only true_b = record {
 }
 
 pub ruleset judging = (is_obligation, proved, enough, judged_true, only_true_bundles)
+
+-- the words are those of `check`, and what a yes says of the bundle holds
+pub checked_words : (told : List ℕ → Told) (words : List (List ℕ)) (bundle proof : List ℕ) → words ≡ codes "check" ∷ bundle ∷ proof ∷ [] → WhereTold (told bundle) StandsForTrueBundle → IsYes told words
+checked_words told words bundle proof checked holds = record { bundle = bundle; proof = proof; checked = checked; true = holds }
+
+pub ruleset answering = (checked_words)

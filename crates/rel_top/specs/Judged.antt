@@ -1,8 +1,8 @@
 -- What is said of the bytes under a name, and what the parts of a yes say.
-use Rattle.std.specs.Prelude.{◌≡◌, ℕ, ◌^◌, ◌<◌, List, length}
+use Rattle.std.specs.Prelude.{◌≡◌, ℕ, ◌^◌, ◌<◌, List, [], ◌∷◌, length, codes}
 use Rattle.rel_io.specs.Told.{Told, untold, absent, bytes}
 use Rattle.rel_lang.specs.declared.bundle.Bundle.{Bundle}
-use Rattle.rel_lang.specs.TrueBundle.{IsTrueBundle}
+use Rattle.rel_lang.specs.TrueBundle.{IsTrueBundle, StandsForTrueBundle}
 use Rattle.rel_lang.specs.View.{bundle_of}
 use Rattle.rel_logic.specs.declared.sequent.Sequent.{Sequent}
 use Rattle.rel_logic.specs.Truth.{IsValid}
@@ -16,6 +16,13 @@ abbrev pub WhereTold : Told → (List ℕ → Type 0) → Type 0
 WhereTold untold P = Unit {0}
 WhereTold absent P = ⊥
 WhereTold (bytes content) P = P content
+
+-- the words are those of `check`, and the bytes under the bundle's name, where they are told, stand for a bundle, and only for true ones
+pub record IsYes (told : List ℕ → Told) (words : List (List ℕ)) : Type 0 where
+  pub bundle : List ℕ
+  pub proof : List ℕ
+  pub checked : words ≡ codes "check" ∷ bundle ∷ proof ∷ []
+  pub true : WhereTold (told bundle) StandsForTrueBundle
 
 -- few enough variables for numbers of 32 bits
 pub record HasFew (p : Parts) : Type 0 where

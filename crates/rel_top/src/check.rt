@@ -3,7 +3,7 @@
 ghost use Rattle.std.specs.Prelude.{◌≡◌, ◌^◌, ◌<◌, ◌≤◌, [], ◌∷◌, length, IfOk, IfSome, IsTrue};
 ghost use Rattle.rel_io.specs.Told.{IsToldAs};
 ghost use Rattle.rel_lang.specs.TrueBundle.{StandsForTrueBundle};
-ghost use Rattle.rel_top.specs.declared.status.Status.TheVariants.{Yes, Refused, FileFault};
+ghost use Rattle.rel_top.specs.declared.status.Status.TheVariants.{Yes, Refused};
 ghost use Rattle.rel_top.specs.Judged.{WhereTold, HasFew, IsObligation, IsProved, IsEnough, IsJudgedTrue};
 
 use crate::checker::{Verdict, accepts};
@@ -31,7 +31,7 @@ pub struct Answer {
     pub lines: List<Name>,
 }
 
-fn with_line(alloc: Global, status: Status, line: Name) -> Result<Answer, Memory>
+pub fn with_line(alloc: Global, status: Status, line: Name) -> Result<Answer, Memory>
     ensures { IfOk result (λ a. a ≡ record { status = status; lines = line ∷ [] }) }
 {
     let mut lines = List::new(alloc);
@@ -71,7 +71,7 @@ fn content_of<F: Files>(
 
 /// A read of the file failed.
 fn unread(alloc: Global, name: &str) -> Result<Answer, Memory>
-    ensures { IfOk result (λ a. a.status ≡ FileFault) }
+    ensures { IfOk result (λ a. a.status ≡ Status.FileFault) }
 {
     with_line(alloc, Status::FileFault, report::file_fault(alloc, name)?)
 }
