@@ -35,7 +35,8 @@ fn ended_command<'a>(
     tokens: &'a [Token<'a>],
     depth: u32,
 ) -> Result<(Command, &'a [Token<'a>]), TextFault>
-    ensures { Gives (λ x. (command_of x.0, x.1.now)) result (before (codes ";") (command_at depth) tokens.now) }
+    ensures { Gives (λ x. (command_of x.0, x.1.now)) result
+        (before (codes ";") (command_at depth) tokens.now) }
 {
     let (command, rest) = command(alloc, tokens, depth)?;
     let rest = expect(rest, ";")?;

@@ -2,7 +2,8 @@
 
 ghost use Rattle.std.specs.Prelude.{◌≡◌, [], ◌∷◌, map, codes};
 ghost use Rattle.rel_lang.specs.View.{decl_of, effect_of};
-ghost use Rattle.rel_decls.specs.Reading.{Gives, after, before, decl_at, decls_at, params_at, effect_at, effects_at, with_front, more_at, most};
+ghost use Rattle.rel_decls.specs.Reading.{Gives, after, before, with_front, more_at, most};
+ghost use Rattle.rel_decls.specs.Reading.{decl_at, decls_at, params_at, effect_at, effects_at};
 
 use crate::fault::TextFault;
 use crate::token::{MOST, expect, is_next, name_of};
@@ -28,7 +29,8 @@ fn ended_decl<'a>(
     tokens: &'a [Token<'a>],
     word: &str,
 ) -> Result<(Decl, &'a [Token<'a>]), TextFault>
-    ensures { Gives (λ x. (decl_of x.0, x.1.now)) result (after word.now (before (codes ";") decl_at) tokens.now) }
+    ensures { Gives (λ x. (decl_of x.0, x.1.now)) result
+        (after word.now (before (codes ";") decl_at) tokens.now) }
 {
     let rest = expect(tokens, word)?;
     let (decl, rest) = decl(alloc, rest)?;
@@ -76,7 +78,8 @@ fn more_params<'a>(
     first: Decl,
     tokens: &'a [Token<'a>],
 ) -> Result<(List<Decl>, &'a [Token<'a>]), TextFault>
-    ensures { Gives (λ x. (map decl_of x.0, x.1.now)) result (with_front (decl_of first ∷ []) (more_at decl_at most tokens.now)) }
+    ensures { Gives (λ x. (map decl_of x.0, x.1.now)) result
+        (with_front (decl_of first ∷ []) (more_at decl_at most tokens.now)) }
 {
     let mut read = (List::new(alloc), tokens);
     read.0.push(first)?;
@@ -136,7 +139,8 @@ fn more_effects<'a>(
     first: Effect,
     tokens: &'a [Token<'a>],
 ) -> Result<(List<Effect>, &'a [Token<'a>]), TextFault>
-    ensures { Gives (λ x. (map effect_of x.0, x.1.now)) result (with_front (effect_of first ∷ []) (more_at effect_at most tokens.now)) }
+    ensures { Gives (λ x. (map effect_of x.0, x.1.now)) result
+        (with_front (effect_of first ∷ []) (more_at effect_at most tokens.now)) }
 {
     let mut read = (List::new(alloc), tokens);
     read.0.push(first)?;

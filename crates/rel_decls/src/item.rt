@@ -1,8 +1,9 @@
 //! Reads the items of a bundle.
 
 ghost use Rattle.std.specs.Prelude.{◌≡◌, map};
-ghost use Rattle.rel_lang.specs.View.{decl_of, proc_of, unit_of, rel_clause_of, align_of, judgement_of, item_of, bundle_of};
-ghost use Rattle.rel_decls.specs.Reading.{Gives, procs_at, front_at, unit_at, path_at, title_at, judgement_at, item_at, items_at, bundle_at};
+ghost use Rattle.rel_lang.specs.View.{decl_of, proc_of, unit_of, judgement_of, item_of, bundle_of};
+ghost use Rattle.rel_decls.specs.Reading.{Gives, procs_at, front_at, unit_at, path_at, title_at};
+ghost use Rattle.rel_decls.specs.Reading.{judgement_at, item_at, items_at, bundle_at};
 
 use crate::biprogram::align;
 use crate::decl::decls;
@@ -102,7 +103,8 @@ fn title_of<'a>(
     alloc: Global,
     tokens: &'a [Token<'a>],
 ) -> Result<(Title, &'a [Token<'a>]), TextFault>
-    ensures { Gives (λ x. ((x.0.name, ((x.0.left.0, x.0.left.1), (x.0.right.0, x.0.right.1))), x.1.now)) result (title_at tokens.now) }
+    ensures { Gives (λ x. ((x.0.name, ((x.0.left.0, x.0.left.1), (x.0.right.0, x.0.right.1))), x.1.now))
+        result (title_at tokens.now) }
 {
     let rest = expect(tokens, "judge")?;
     let (name, rest) = name_of(alloc, rest)?;

@@ -30,7 +30,8 @@ pub fn parse_bundle(alloc: Global, text: &[u8]) -> Result<Bundle, TextFault>
     ensures stands { IfOk result (λ b. StandsFor text.now (bundle_of b)) }
     // A text stands for one bundle at most.
     ensures only { (b : syntax.Bundle) → StandsFor text.now b → IfOk result (λ c. bundle_of c ≡ b) }
-    ensures refused { result ≡ Err faults.Refused → (b : syntax.Bundle) → StandsFor text.now b → ¬ (Fits b) }
+    ensures refused { result ≡ Err faults.Refused
+        → (b : syntax.Bundle) → StandsFor text.now b → ¬ (Fits b) }
 {
     match from_utf8(text) {
         Ok(text) => read(alloc, text),
@@ -42,7 +43,8 @@ fn read(alloc: Global, text: &str) -> Result<Bundle, TextFault>
     requires { length text.now < 2 ^ 32 }
     ensures stands { IfOk result (λ b. StandsFor text.now (bundle_of b)) }
     ensures only { (b : syntax.Bundle) → StandsFor text.now b → IfOk result (λ c. bundle_of c ≡ b) }
-    ensures refused { result ≡ Err faults.Refused → (b : syntax.Bundle) → StandsFor text.now b → ¬ (Fits b) }
+    ensures refused { result ≡ Err faults.Refused
+        → (b : syntax.Bundle) → StandsFor text.now b → ¬ (Fits b) }
 {
     let tokens = match lex(alloc, text) {
         Ok(tokens) => tokens,
@@ -52,3 +54,6 @@ fn read(alloc: Global, text: &str) -> Result<Bundle, TextFault>
     let (bundle, _) = item::bundle(alloc, &tokens)?;
     Ok(bundle)
 }
+
+#[cfg(test)]
+mod tests;

@@ -2,7 +2,8 @@
 
 ghost use Rattle.std.specs.Prelude.{◌≡◌, map};
 ghost use Rattle.rel_lang.specs.View.{type_of, clause_of, decl_of, effect_of, spec_of, block_of, proc_of};
-ghost use Rattle.rel_decls.specs.Reading.{Gives, clauses_at, writes_at, spec_at, body_at, head_at, result_at, proc_at};
+ghost use Rattle.rel_decls.specs.Reading.{Gives, clauses_at, writes_at, spec_at, body_at};
+ghost use Rattle.rel_decls.specs.Reading.{head_at, result_at, proc_at};
 
 use crate::command::commands;
 use crate::decl::{decls, effects, params};
