@@ -69,3 +69,24 @@ fn same_form(a: &Form, b: &Form) -> bool
         (Form::Assign(x, e), Form::Assign(y, f)) => x.is(y) && same_expr(e, f),
     }
 }
+
+#[cfg(test)]
+mod tests {
+    use super::*;
+    use rel_list::Boxed;
+    use std::test::Fail;
+
+    #[test]
+    fn a_copied_command_is_the_same(rt: HostRuntime) -> Result<(), Fail> {
+        let alloc = rt.alloc();
+        let x = Boxed::new(alloc, Expr::Var(Name::new(alloc, "x")?))?;
+        let one = Boxed::new(alloc, Expr::Num(1))?;
+        let form = Form::Assign(Name::new(alloc, "x")?, Expr::Sub(x, one));
+        let command = Command { at: 7, form };
+        let mut commands = List::new(alloc);
+        commands.push(command)?;
+        let copy = commands.copied()?;
+        assert!(rt; same_commands(&commands, &copy));
+        Ok(())
+    }
+}

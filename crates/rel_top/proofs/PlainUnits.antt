@@ -22,9 +22,10 @@ own_fit : (xs : Scope) (s : State) → AreFit xs (with_defaults xs s)
 own_fit [] s = tt
 own_fit (x ∷ xs) s =
     let d = default x.ty in
-    let below = with_defaults xs s in
-    (number_fits x.ty _ _ (subst (λ v. v ≡ number (as_number v)) (sym (write_itself x d below)) (default_number x.ty)),
-    write_fit xs (Some x) d below (default_number x.ty) (own_fit xs s))
+    let below = with_defaults xs s in (
+      number_fits x.ty _ _ (subst (λ v. v ≡ number (as_number v)) (sym (write_itself x d below)) (default_number x.ty)),
+      write_fit xs (Some x) d below (default_number x.ty) (own_fit xs s),
+    )
 
 pub start_fit : (p : Program) (q : Proc) (s : State) → AreFit (pre_scope p q) s → AreFit (body_scope p q) (with_defaults (own_variables q) s)
 start_fit p q s a = each_append _ (pre_scope p q) (own_variables q) (defaults_fit (pre_scope p q) (own_variables q) s a) (own_fit (own_variables q) s)
@@ -67,9 +68,10 @@ module _ (u : UnitItem) (q : Proc) (typed : IsTypedUnit u) (plain : IsPlainUnit 
   globals_kept : (ds : List Decl) → AllByRecursion (λ y. result_name ≡ y → ⊥) (map (λ d. d.name) ds)
       → AllByRecursion (λ x. ¬ (IsListed q.spec.writes x.name) → end.vars x.owner x.name ≡ s.vars x.owner x.name) (declared (item u.name) true ds)
   globals_kept [] a = tt
-  globals_kept (d ∷ ds) a =
-      (λ free. final_keeps q.spec.writes sc q.body.commands start (item u.name) d.name plain.lists free a.0 ∙ defaults_keep q.body.locals q.result s u.name d.name,
-      globals_kept ds a.1)
+  globals_kept (d ∷ ds) a = (
+    λ free. final_keeps q.spec.writes sc q.body.commands start (item u.name) d.name plain.lists free a.0 ∙ defaults_keep q.body.locals q.result s u.name d.name,
+    globals_kept ds a.1,
+  )
 
   pub ends_well : EndsWell [] (program_of u) q s end
   ends_well = record {
@@ -90,6 +92,6 @@ plain_meets u q typed plain s formed needs n k =
     record {
       safe = λ bad. cc;
       ends = λ t m is.
-        let same : final (body_scope (program_of u) q) q.body.commands (with_defaults (own_variables q) s) ≡ t = cc in
-        subst (EndsWell [] (program_of u) q s) same (ends_well u q typed plain s formed);
+          let same : final (body_scope (program_of u) q) q.body.commands (with_defaults (own_variables q) s) ≡ t = cc in
+          subst (EndsWell [] (program_of u) q s) same (ends_well u q typed plain s formed);
     }

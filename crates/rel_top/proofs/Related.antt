@@ -142,9 +142,17 @@ module _ (k : Parts) (lp : IsPlainUnit k.left k.left_proc) (rp : IsPlainUnit k.r
 
     sorted : FitsSorts (obligation_of k).sorts r
     sorted = fit_sorts (obligation_of k).sorts values (subst (λ ts. Fit ts values) (sym regrouped)
-        (fit_append _ _ _ _ (fit_values (item k.left.name) s k.left.globals) ((s.alloc, refl), fit_append _ _ _ _ (fit_values (item k.right.name) s' k.right.globals)
-        ((s'.alloc, refl), ((the_bijection, refl), fit_append _ _ _ _ (fit_assigned (flat k.left k.left_proc) (left_block k) left_begin)
-        (fit_append _ [] _ [] (fit_assigned (flat k.right k.right_proc) (right_block k) right_begin) tt))))))
+        (fit_append _ _ _ _ (fit_values (item k.left.name) s k.left.globals) (
+          (s.alloc, refl),
+          fit_append _ _ _ _ (fit_values (item k.right.name) s' k.right.globals) (
+            (s'.alloc, refl),
+            (
+              (the_bijection, refl),
+              fit_append _ _ _ _ (fit_assigned (flat k.left k.left_proc) (left_block k) left_begin)
+                  (fit_append _ [] _ [] (fit_assigned (flat k.right k.right_proc) (right_block k) right_begin) tt),
+            ),
+          ),
+        )))
       where
         regrouped : (obligation_of k).sorts
             ≡ replicate (left_alloc k) int_sort ++ (rgn_sort ∷ (replicate (length k.right.globals) int_sort ++ (rgn_sort ∷ (bij_sort ∷ (replicate (block_len (left_block k)) int_sort ++ (replicate (block_len (right_block k)) int_sort ++ []))))))
@@ -158,9 +166,10 @@ module _ (k : Parts) (lp : IsPlainUnit k.left k.left_proc) (rp : IsPlainUnit k.r
 
     inside_true : IsTrueAt r [] (inside (bijection k) (left_alloc k) (right_alloc k))
     inside_true v w h =
-        let p = partners_inside q s s' both v w (subst (λ e. ArePartners (as_pairs e) v w) (at_here values (bijection k) _ _ at_bijection) h) in
-        (subst (λ e. IsMember v (as_rgn e)) (sym (at_here values (left_alloc k) _ _ at_left_alloc)) p.0,
-        subst (λ e. IsMember w (as_rgn e)) (sym (at_here values (right_alloc k) _ _ at_right_alloc)) p.1)
+        let p = partners_inside q s s' both v w (subst (λ e. ArePartners (as_pairs e) v w) (at_here values (bijection k) _ _ at_bijection) h) in (
+          subst (λ e. IsMember v (as_rgn e)) (sym (at_here values (left_alloc k) _ _ at_left_alloc)) p.0,
+          subst (λ e. IsMember w (as_rgn e)) (sym (at_here values (right_alloc k) _ _ at_right_alloc)) p.1,
+        )
 
     flat_needs : RelHolds (globals_of k.left) (globals_of k.right) s s' s s' k.judgement.needs.formula q
     flat_needs =
@@ -199,13 +208,14 @@ module _ (k : Parts) (lp : IsPlainUnit k.left k.left_proc) (rp : IsPlainUnit k.r
       bijection = record {
         one_to_one = both.one_to_one;
         allocated = λ a b h.
-          let p = both.allocated a b h in
-          (subst (λ g. IsTrue (is_in a g)) (sym (end_alloc k.left k.left_proc lp ld s lf)) p.0,
-          subst (λ g. IsTrue (is_in b g)) (sym (end_alloc k.right k.right_proc rp rd s' rf)) p.1);
+            let p = both.allocated a b h in (
+              subst (λ g. IsTrue (is_in a g)) (sym (end_alloc k.left k.left_proc lp ld s lf)) p.0,
+              subst (λ g. IsTrue (is_in b g)) (sym (end_alloc k.right k.right_proc rp rd s' rf)) p.1,
+            );
       };
       gives =
-        subst (λ (x : Scope × Scope). RelHolds x.0 x.1 s s' left_end right_end k.judgement.gives.formula q)
-        (λ i. (sym (flat_post k.left k.left_proc lp) i, sym (flat_post k.right k.right_proc rp) i)) flat_gives;
+          subst (λ (x : Scope × Scope). RelHolds x.0 x.1 s s' left_end right_end k.judgement.gives.formula q)
+          (λ i. (sym (flat_post k.left k.left_proc lp) i, sym (flat_post k.right k.right_proc rp) i)) flat_gives;
     }
 
   pub judgement_true : IsTrueOf [] k.judgement left_subject right_subject
@@ -216,7 +226,7 @@ module _ (k : Parts) (lp : IsPlainUnit k.left k.left_proc) (rp : IsPlainUnit k.r
         left_safe = λ bad. cc;
         right_safe = λ bad. cc;
         related = λ t t' m m' is is'.
-          let same : end k.left k.left_proc lp ld s lf ≡ t = cc in
-          let same' : end k.right k.right_proc rp rd s' rf ≡ t' = cc in
-          subst (λ (x : State × State). EndsRelated left_subject right_subject k.judgement s s' x.0 x.1 q) (λ i. (same i, same' i)) (ends_related s s' q lf rf both needs);
+            let same : end k.left k.left_proc lp ld s lf ≡ t = cc in
+            let same' : end k.right k.right_proc rp rd s' rf ≡ t' = cc in
+            subst (λ (x : State × State). EndsRelated left_subject right_subject k.judgement s s' x.0 x.1 q) (λ i. (same i, same' i)) (ends_related s s' q lf rf both needs);
       }

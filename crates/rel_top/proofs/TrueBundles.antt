@@ -77,6 +77,6 @@ module _ (b : Bundle) (k : Parts) (form : HasForm b k) (valid : IsValid (obligat
   true_bundle = record {
     typed = form.typed;
     items =
-      subst (AllByRecursion (IsTrueItem b)) (sym form.parts.items)
-      (unit_true k.left k.left_proc typed.0 form.parts.left, (unit_true k.right k.right_proc typed.1.0 form.parts.right, (the_judgement, tt)));
+        subst (AllByRecursion (IsTrueItem b)) (sym form.parts.items)
+        (unit_true k.left k.left_proc typed.0 form.parts.left, (unit_true k.right k.right_proc typed.1.0 form.parts.right, (the_judgement, tt)));
   }

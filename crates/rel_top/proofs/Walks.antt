@@ -62,10 +62,11 @@ describes_other : (r : Valuation) (st : Store) (sc : Scope) (s : State) (w : Var
 describes_other r [] [] s w v other d = tt
 describes_other r [] (x ∷ xs) s w v other d = absurd d
 describes_other r (p ∷ ps) [] s w v other d = absurd d
-describes_other r (p ∷ ps) (x ∷ xs) s w v other d =
-    (d.0,
-    d.1 ∙ ap (λ z. number (as_number z)) (sym (write_other w v s x.owner x.name (words_differ w.name x.name (λ e. other (inl e))))),
-    describes_other r ps xs s w v (λ k. other (inr k)) d.2)
+describes_other r (p ∷ ps) (x ∷ xs) s w v other d = (
+  d.0,
+  d.1 ∙ ap (λ z. number (as_number z)) (sym (write_other w v s x.owner x.name (words_differ w.name x.name (λ e. other (inl e))))),
+  describes_other r ps xs s w v (λ k. other (inr k)) d.2,
+)
 
 describes_write : (r : Valuation) (n : ℕ) (x : Word) (v : Val) (s : State) (st : Store) (sc : Scope) → AreDistinct (map (λ y. y.name) sc) → r n ≡ number (as_number v) → Describes r st sc s
     → Describes r (with_term x (L.var n) st) sc (write_variable (find_variable x sc) v s)
@@ -75,11 +76,12 @@ describes_write r n x v s (p ∷ ps) [] distinct at d = absurd d
 describes_write r n x v s (p ∷ ps) (y ∷ ys) distinct at d =
     elim (bytes_eq x y.name) as (λ b. bytes_eq x y.name ≡ b → Describes r (with_term x (L.var n) (p ∷ ps)) (y ∷ ys) (write_variable (if b then Some y else find_variable x ys) v s)) [
       | true ↦ λ e. rw (ap (bytes_eq x) d.0 ∙ e)
-        (d.0, at ∙ ap (λ z. number (as_number z)) (sym (write_itself y v s)), describes_other r ps ys s y v distinct.0 d.2)
-      | false ↦ λ e. rw (ap (bytes_eq x) d.0 ∙ e)
-        (d.0,
+          (d.0, at ∙ ap (λ z. number (as_number z)) (sym (write_itself y v s)), describes_other r ps ys s y v distinct.0 d.2)
+      | false ↦ λ e. rw (ap (bytes_eq x) d.0 ∙ e) (
+        d.0,
         d.1 ∙ ap (λ z. number (as_number z)) (sym (write_found_other x ys v s y.owner y.name e)),
-        describes_write r n x v s ps ys distinct.1 at d.2)
+        describes_write r n x v s ps ys distinct.1 at d.2,
+      )
     ] refl
 
 -- ---- a walk
@@ -154,7 +156,7 @@ pub start_finds : (values : List Elem) (o : Owner) (ds : List Decl) (n : ℕ) (s
 start_finds values o [] n s rest e y = elim (bytes_eq y result_name) as (λ b. value (nth values) [] (if b then L.int (pos 0) else L.int (pos 0)) ≡ number (pos 0)) [ true ↦ refl | false ↦ refl ]
 start_finds values o (d ∷ ds) n s rest e y =
     elim (bytes_eq y d.name) as (λ b. value (nth values) [] (if b then L.var n else look_up y (numbered (suc n) ds))
-        ≡ number (as_number (read_variable (if b then Some (record { name = d.name; owner = o; ty = d.ty; is_assignable = true }) else find_variable y (declared o true ds)) s))) [
+    ≡ number (as_number (read_variable (if b then Some (record { name = d.name; owner = o; ty = d.ty; is_assignable = true }) else find_variable y (declared o true ds)) s))) [
       | true ↦ at_here values n _ _ e
       | false ↦ start_finds values o ds (suc n) s rest (at_next values n _ _ e) y
     ]

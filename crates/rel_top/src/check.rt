@@ -14,14 +14,16 @@ use crate::report;
 use crate::status::Status;
 use crate::step::Step;
 use rel_decls::{TextFault, parse_bundle};
-use rel_lang::bundle::Bundle;
 use rel_io::{FileFault, Files};
+use rel_lang::bundle::Bundle;
 use rel_list::{List, Memory, Name};
 use rel_logic::sequent::Sequent;
 use std::alloc::Global;
 
 const BUNDLE_LIMIT: u64 = 1 << 22;
+
 const PROOF_LIMIT: u64 = 1 << 26;
+
 const LENGTH_LIMIT: usize = 1 << 30;
 
 /// What is to be printed, and the status to end with.
@@ -214,7 +216,10 @@ fn check_steps(
     match accepts(alloc, sequent, steps)? {
         Verdict::Accepted => Ok(accepted(alloc, parts)?),
         Verdict::BadStep(step) => refused(alloc, report::bad_step(alloc, parts.judgement, step)?),
-        Verdict::OpenNodes(nodes) => refused(alloc, report::open_nodes(alloc, parts.judgement, nodes)?),
+        Verdict::OpenNodes(nodes) => refused(
+            alloc,
+            report::open_nodes(alloc, parts.judgement, nodes)?,
+        ),
     }
 }
 

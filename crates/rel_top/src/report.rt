@@ -45,7 +45,9 @@ pub fn bad_step(alloc: Global, judgement: &Judgement, step: u32) -> Result<Name,
 {
     let name = judgement.name.as_str();
     let at = judgement.at;
-    let text = format!(in alloc; "refused BadStep obligation 0 step {step} in judge {name} at {at}\n")?;
+    let text = format!(in alloc;
+        "refused BadStep obligation 0 step {step} in judge {name} at {at}\n"
+    )?;
     Ok(Name { text })
 }
 
@@ -55,7 +57,9 @@ pub fn open_nodes(alloc: Global, judgement: &Judgement, nodes: u64) -> Result<Na
 {
     let name = judgement.name.as_str();
     let at = judgement.at;
-    let text = format!(in alloc; "refused OpenNodes {nodes} obligation 0 in judge {name} at {at}\n")?;
+    let text = format!(in alloc;
+        "refused OpenNodes {nodes} obligation 0 in judge {name} at {at}\n"
+    )?;
     Ok(Name { text })
 }
 

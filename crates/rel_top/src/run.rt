@@ -13,12 +13,7 @@ use std::alloc::Global;
 
 /// Does what the words say. A yes means that the bytes under the bundle's name, where they are told,
 /// stand for a bundle, and that every bundle that they stand for is true.
-pub fn run<F: Files, S: Sink>(
-    alloc: Global,
-    words: &[String],
-    files: &mut F,
-    out: &mut S,
-) -> Status
+pub fn run<F: Files, S: Sink>(alloc: Global, words: &[String], files: &mut F, out: &mut S) -> Status
     ensures yes { result ≡ Yes → IsYes (F.told files.old) (map string_bytes words.now) }
 {
     match answer_to(alloc, words, files) {
