@@ -1,5 +1,5 @@
 -- A text cut between two characters, and the characters that a search passes.
-use Rattle.std.proofs.Common.{◌≡◌, ℕ, zero, suc, ◌<◌, Bool, true, false, not, cond, List, [], ◌∷◌, ◌++◌, length, get_or, take, drop, Option, Some, None, MatchOption, IsUtf8, refl, sym, ap, ◌∙◌, subst, arith, take-append-drop}
+use Rattle.std.proofs.Common.{◌≡◌, ℕ, zero, suc, ◌<◌, Bool, true, false, not, cond, ◌&&◌, List, [], ◌∷◌, ◌++◌, length, get_or, take, drop, Option, Some, None, MatchOption, IsUtf8, refl, sym, ap, ◌∙◌, subst, arith, take-append-drop}
 use Rattle.std.specs.Prelude.{take_while}
 use Rattle.std.specs.Option.{unwrap_or}
 use Rattle.std.specs.Str.{chars, IsCharBoundary, NonePass}
@@ -70,6 +70,12 @@ module _ (p t : ℕ → Bool) (opposite : (c : ℕ) → p c ≡ not (t c)) where
 
   pub run-searched : (M : (ℕ → Bool) → Type 0) (text : List ℕ) (r : Option ℕ) (n : ℕ) → IsUtf8 text → MatchOption r (Searched M text None) (MatchBeginsAt (Searched M) text) → n ≡ unwrap_or r (length text) → M t → IsRun p text n
   run-searched M text r n utf8 found is answers = subst (IsRun p text) (sym is) (run-either (Searched M) text (λ o f. f t answers) utf8 r found)
+
+-- ---- tests
+
+pub and-true : (b : Bool) → (b && true) ≡ b
+and-true true = refl
+and-true false = refl
 
 pub not-not : (b : Bool) → b ≡ not (not b)
 not-not true = refl

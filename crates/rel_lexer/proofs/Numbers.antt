@@ -23,7 +23,7 @@ use Rattle.rel_lang.specs.Tokens.Piece.{token, bad}
 use Rattle.rel_lexer.specs.declared.Kind.TheVariants.{Number}
 use Rattle.rel_lexer.specs.Tokens.{IsOfKind}
 use Rattle.rel_lexer.specs.Pieces.{BeginsWith, IsRun, IsToken}
-use Rattle.rel_lexer.proofs.Cuts.{take_while-all, take-run_len}
+use Rattle.rel_lexer.proofs.Cuts.{and-true, take_while-all, take-run_len}
 
 pub own : IsNumeralModel (AllDigits 10) (digits_value 10)
 own = numerals_by_value (AllDigits 10) tells_digits
@@ -77,10 +77,6 @@ number_of zero_first k value = cond ((zero_first && not (k == 1)) || leb literal
 
 by_parts : (cs : List ℕ) → number_piece cs ≡ number_of (starts_with nat_eq cs (codes "0")) (run_len is_digit cs) (digits_value 10 (take (run_len is_digit cs) cs))
 by_parts cs = refl
-
-and-true : (b : Bool) → (b && true) ≡ b
-and-true true = refl
-and-true false = refl
 
 module _ (text : List ℕ) (c n : ℕ) (utf8 : IsUtf8 text) (begins : BeginsWith text c) (digit : is_digit c ≡ true) (run : IsRun is_digit text n) where
   abbrev front : List ℕ

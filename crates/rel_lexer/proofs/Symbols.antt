@@ -12,11 +12,7 @@ use Rattle.rel_lang.specs.Tokens.Piece.{token, bad}
 use Rattle.rel_lexer.specs.declared.Kind.TheVariants.{Symbol}
 use Rattle.rel_lexer.specs.Tokens.{IsOfKind}
 use Rattle.rel_lexer.specs.Pieces.{BeginsWith, IsToken, single_symbols}
-use Rattle.rel_lexer.proofs.Cuts.{StartsAs, first_byte, starts-so, starts-not}
-
-and-true : (b : Bool) → (b && true) ≡ b
-and-true true = refl
-and-true false = refl
+use Rattle.rel_lexer.proofs.Cuts.{and-true, StartsAs, first_byte, starts-so, starts-not}
 
 abbrev one : ℕ → List ℕ
 one k = k ∷ []

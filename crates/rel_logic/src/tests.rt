@@ -1,13 +1,12 @@
 //! A sequent's copy has the same parts.
 use crate::fol::Fol;
-use crate::sequent::{Node, Sequent};
+use crate::sequent::Sequent;
 use crate::term::{Sort, Term};
-use rel_list::{Boxed, List};
+use rel_list::{Boxed, List, Memory};
+use std::alloc::Global;
 use std::test::Fail;
 
-#[test]
-fn copies_have_the_same_parts(rt: HostRuntime) -> Result<(), Fail> {
-    let alloc = rt.alloc();
+fn example(alloc: Global) -> Result<Sequent, Memory> {
     let mut sorts = List::new(alloc);
     sorts.push(Sort::Int)?;
     let sum = Term::Add(
@@ -18,31 +17,49 @@ fn copies_have_the_same_parts(rt: HostRuntime) -> Result<(), Fail> {
     hyps.push(Fol::Lt(sum, Term::Var(0)))?;
     let inner = Fol::Member(Term::Bound(0), Term::Var(1));
     let goal = Fol::Every(Sort::Ref, Boxed::new(alloc, inner)?);
-    let sequent = Sequent { sorts, hyps, goal };
-    let copy = sequent.copy()?;
-    let same_hyp = match copy.hyps.at(0) {
-        Fol::Lt(Term::Add(a, b), _) => matches!(a.get(), Term::Var(0))
-            && matches!(b.get(), Term::Int(5)),
+    Ok(Sequent { sorts, hyps, goal })
+}
+
+fn is_variable(t: &Term, number: u32) -> bool {
+    match t {
+        Term::Var(n) => *n == number,
         _ => false,
-    };
-    assert!(rt; same_hyp);
-    let same_goal = match &copy.goal {
-        Fol::Every(Sort::Ref, body) => matches!(
-            body.get(),
-            Fol::Member(Term::Bound(0), Term::Var(1))
-        ),
+    }
+}
+
+fn is_sum_with(t: &Term, number: u32) -> bool {
+    match t {
+        Term::Add(a, _) => is_variable(a.get(), number),
         _ => false,
-    };
-    assert!(rt; same_goal);
-    let Sequent {
-        sorts,
-        hyps,
-        goal: _,
-    } = copy;
-    let node = Node { sorts, forms: hyps };
-    let other = node.copy()?;
-    assert!(rt;
-        other.sorts.len() == 1 && other.forms.len() == 1 && *other.sorts.at(0) == Sort::Int
-    );
+    }
+}
+
+fn is_the_hypothesis(f: &Fol) -> bool {
+    match f {
+        Fol::Lt(a, b) => is_sum_with(a, 0) && is_variable(b, 0),
+        _ => false,
+    }
+}
+
+fn is_member_of(f: &Fol, number: u32) -> bool {
+    match f {
+        Fol::Member(_, g) => is_variable(g, number),
+        _ => false,
+    }
+}
+
+fn is_the_goal(f: &Fol) -> bool {
+    match f {
+        Fol::Every(sort, body) => *sort == Sort::Ref && is_member_of(body.get(), 1),
+        _ => false,
+    }
+}
+
+#[test]
+fn a_copy_has_the_same_parts(rt: HostRuntime) -> Result<(), Fail> {
+    let copy = example(rt.alloc())?.copy()?;
+    assert!(rt; copy.sorts.len() == 1 && *copy.sorts.at(0) == Sort::Int);
+    assert!(rt; copy.hyps.len() == 1 && is_the_hypothesis(copy.hyps.at(0)));
+    assert!(rt; is_the_goal(&copy.goal));
     Ok(())
 }

@@ -4,3 +4,8 @@ pub mod ProofFile
 pub mod Report
 pub mod Parts
 pub mod Scope
+pub mod Linear
+pub mod Forms
+pub mod Rules
+pub mod Stack
+pub mod Judged

@@ -1,4 +1,4 @@
--- The parts of a bundle as the code holds them, and what is asked of a unit in the words of its names.
+-- The parts of a bundle as the code holds them, and what is asked of them, in the words of the names in scope.
 use Rattle.std.specs.Prelude.{◌≡◌, ◌≢◌, ◌⊎◌, Bool, true, false, if◌then◌else◌, List, [], ◌∷◌, map}
 use Rattle.std.specs.List.{AllByRecursion}
 use Rattle.rel_lang.specs.Syntax.{Word, Exp, var, num, add, sub, Rel, agree, Cmd, command, assign, Block, BiForm, split, Effect, global, without_at}

@@ -37,7 +37,8 @@ struct Terms {
 fn place(variables: &[Variable], x: &Name) -> usize
     ensures within { result ≤ length variables.now }
     ensures before { All (λ v. x.now ≢ v.name) (take result variables.now) }
-    ensures found { (v : Variable) → v ≡ get_or variables.now result v → result < length variables.now → x.now ≡ v.name }
+    ensures found { let vs = variables.now in
+        (v : Variable) → v ≡ get_or vs result v → result < length vs → x.now ≡ v.name }
 {
     for i in 0..variables.len() {
         if variables[i].name.is(x) {
@@ -123,7 +124,8 @@ fn start(alloc: Global, first: u32, globals: &List<Decl>) -> Result<Terms, Memor
 
 /// Both terms' values are equal on the two sides.
 fn relation(alloc: Global, left: &Terms, right: &Terms, r: &RelFormula) -> Result<Fol, Memory>
-    ensures { IfOk result (λ f. fml_of f ≡ relation_of (store_of left.now) (store_of right.now) (rel_of r.now)) }
+    ensures { let related = relation_of (store_of left.now) (store_of right.now) (rel_of r.now) in
+        IfOk result (λ f. fml_of f ≡ related) }
 {
     match r {
         RelFormula::Agree(e, f) => Ok(Fol::Eq(term(alloc, left, e)?, term(alloc, right, f)?)),

@@ -45,8 +45,9 @@ fn is_named(p: &Parts) -> bool
 }
 
 fn reads_sides(formula: &RelFormula, left: &UnitItem, right: &UnitItem, with_result: bool) -> bool
-    ensures { IsTrue result
-        ↔ ReadsRel (visible with_result left.now.globals) (visible with_result right.now.globals) (rel_of formula.now) }
+    ensures { let xs = visible with_result left.now.globals in
+        let ys = visible with_result right.now.globals in
+        IsTrue result ↔ ReadsRel xs ys (rel_of formula.now) }
 {
     match formula {
         RelFormula::Agree(e, f) => reads_only(e, &left.globals, with_result)
@@ -65,7 +66,8 @@ fn is_split(align: &Align, left: &List<Command>, right: &List<Command>) -> bool
 
 #[tactic(auto, using(crate::proofs::FormsShape::split_list))]
 fn is_split_list(commands: &List<BiCommand>, left: &List<Command>, right: &List<Command>) -> bool
-    ensures { IsTrue result ↔ IsSplitOf (given (biblock_of commands.now)) (block_of left.now) (block_of right.now) }
+    ensures { IsTrue result
+        ↔ IsSplitOf (given (biblock_of commands.now)) (block_of left.now) (block_of right.now) }
 {
     if commands.len() != 1 {
         return false;
