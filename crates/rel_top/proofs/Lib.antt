@@ -21,3 +21,4 @@ pub mod Sums
 pub mod Stacks
 pub mod Exact
 pub mod Yes
+pub mod FewSteps

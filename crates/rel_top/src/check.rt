@@ -189,6 +189,7 @@ fn check_sequent<F: Files>(
     }
 }
 
+#[tactic(auto, using(crate::proofs::FewSteps::few_steps))]
 fn check_proof(
     alloc: Global,
     parts: &Parts<'_>,
@@ -211,6 +212,7 @@ fn check_steps(
     sequent: &Sequent,
     steps: &List<Step>,
 ) -> Result<Answer, Memory>
+    requires { length steps.now < 2 ^ 32 }
     ensures { IfOk result (λ a. a.status ≡ Yes → IsProved sequent.now) }
 {
     match accepts(alloc, sequent, steps)? {

@@ -1,6 +1,6 @@
 //! The top call: the words of a command, and what comes of them.
 
-ghost use Rattle.std.specs.Prelude.{◌≡◌, ◌∷◌, [], map, codes, string_bytes, IfOk, IfSome};
+ghost use Rattle.std.specs.Prelude.{◌≡◌, ◌↔◌, ◌∷◌, [], map, IsTrue, codes, string_bytes, IfOk, IfSome};
 ghost use Rattle.rel_top.specs.declared.status.Status.TheVariants.{Yes};
 ghost use Rattle.rel_top.specs.Judged.{IsYes};
 
@@ -36,11 +36,17 @@ fn answer_to<F: Files>(alloc: Global, words: &[String], files: &mut F) -> Result
 fn check_words(words: &[String]) -> Option<(&str, &str)>
     ensures { IfSome result (λ p. map string_bytes words.now ≡ codes "check" ∷ p.0.now ∷ p.1.now ∷ []) }
 {
-    if words.len() == 3 && words[0].as_str() == "check" {
+    if words.len() == 3 && is_text(&words[0], "check") {
         Some((words[1].as_str(), words[2].as_str()))
     } else {
         None
     }
+}
+
+fn is_text(word: &String, text: &str) -> bool
+    ensures { IsTrue result ↔ (string_bytes word.now ≡ text.now) }
+{
+    word.as_str() == text
 }
 
 /// Puts the lines one by one, and no further one after a fault.
