@@ -11,7 +11,8 @@ use Rattle.rel_logic.specs.Truth.{IsValid}
 use Rattle.rel_logic.specs.View.{sequent_of}
 use Rattle.rel_top.specs.declared.form.Parts.{Parts}
 use Rattle.rel_top.specs.Form.{HasForm}
-use Rattle.rel_top.specs.Judged.{WhereTold, IsYes, IsObligation, IsProved, IsEnough, IsJudgedTrue}
+use Rattle.rel_top.specs.Headline.{WhereTold, IsYes}
+use Rattle.rel_top.specs.Judged.{IsObligation, IsProved, IsEnough, IsJudgedTrue}
 use Rattle.rel_top.specs.Obligation.{obligation_of}
 use Rattle.rel_top.specs.Parts.{parts_view}
 use Rattle.rel_top.proofs.TrueBundles.{true_bundle}

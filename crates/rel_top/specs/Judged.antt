@@ -1,8 +1,7 @@
--- What is said of the bytes under a name, and what the parts of a yes say.
-use Rattle.std.specs.Prelude.{◌≡◌, ℕ, ◌^◌, ◌<◌, List, [], ◌∷◌, length, codes}
-use Rattle.rel_io.specs.Told.{Told, untold, absent, bytes}
+-- What the parts of a yes say, each under a word of its own.
+use Rattle.std.specs.Prelude.{◌≡◌, ◌^◌, ◌<◌, length}
 use Rattle.rel_lang.specs.declared.bundle.Bundle.{Bundle}
-use Rattle.rel_lang.specs.TrueBundle.{IsTrueBundle, StandsForTrueBundle}
+use Rattle.rel_lang.specs.TrueBundle.{IsTrueBundle}
 use Rattle.rel_lang.specs.View.{bundle_of}
 use Rattle.rel_logic.specs.declared.sequent.Sequent.{Sequent}
 use Rattle.rel_logic.specs.Truth.{IsValid}
@@ -10,19 +9,6 @@ use Rattle.rel_logic.specs.View.{sequent_of}
 use Rattle.rel_top.specs.declared.form.Parts.{Parts}
 use Rattle.rel_top.specs.Obligation.{obligation_of}
 use Rattle.rel_top.specs.Parts.{parts_view}
-
--- the bytes are there and have the property, where anything is told of them
-abbrev pub WhereTold : Told → (List ℕ → Type 0) → Type 0
-WhereTold untold P = Unit {0}
-WhereTold absent P = ⊥
-WhereTold (bytes content) P = P content
-
--- the words are those of `check`, and the bytes under the bundle's name, where they are told, stand for a bundle, and only for true ones
-pub record IsYes (told : List ℕ → Told) (words : List (List ℕ)) : Type 0 where
-  pub bundle : List ℕ
-  pub proof : List ℕ
-  pub checked : words ≡ codes "check" ∷ bundle ∷ proof ∷ []
-  pub true : WhereTold (told bundle) StandsForTrueBundle
 
 -- few enough variables for numbers of 32 bits
 pub record HasFew (p : Parts) : Type 0 where

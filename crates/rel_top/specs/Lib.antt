@@ -8,4 +8,5 @@ pub mod Linear
 pub mod Forms
 pub mod Rules
 pub mod Stack
+pub mod Headline
 pub mod Judged

@@ -4,7 +4,8 @@ ghost use Rattle.std.specs.Prelude.{◌≡◌, ◌^◌, ◌<◌, ◌≤◌, [], 
 ghost use Rattle.rel_io.specs.Told.{IsToldAs};
 ghost use Rattle.rel_lang.specs.TrueBundle.{StandsForTrueBundle};
 ghost use Rattle.rel_top.specs.declared.status.Status.TheVariants.{Yes, Refused};
-ghost use Rattle.rel_top.specs.Judged.{WhereTold, HasFew, IsObligation, IsProved, IsEnough, IsJudgedTrue};
+ghost use Rattle.rel_top.specs.Headline.{WhereTold};
+ghost use Rattle.rel_top.specs.Judged.{HasFew, IsObligation, IsProved, IsEnough, IsJudgedTrue};
 
 use crate::checker::{Verdict, accepts};
 use crate::form::{Parts, parts_of};
@@ -48,7 +49,8 @@ pub fn check<F: Files>(
     proof: &str,
     files: &mut F,
 ) -> Result<Answer, Memory>
-    ensures yes { IfOk result (λ a. a.status ≡ Yes → WhereTold (F.told files.old bundle.now) StandsForTrueBundle) }
+    ensures yes { IfOk result (λ a. a.status ≡ Yes →
+        WhereTold (F.told files.old bundle.now) StandsForTrueBundle) }
 {
     match content_of(alloc, bundle, BUNDLE_LIMIT, files) {
         Ok(text) => Ok(check_text(alloc, text.as_slice(), proof, files)?),

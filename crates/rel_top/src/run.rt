@@ -2,7 +2,7 @@
 
 ghost use Rattle.std.specs.Prelude.{◌≡◌, ◌↔◌, ◌∷◌, [], map, IsTrue, codes, string_bytes, IfOk, IfSome};
 ghost use Rattle.rel_top.specs.declared.status.Status.TheVariants.{Yes};
-ghost use Rattle.rel_top.specs.Judged.{IsYes};
+ghost use Rattle.rel_top.specs.Headline.{IsYes};
 
 use crate::check::{Answer, check, with_line};
 use crate::report;
