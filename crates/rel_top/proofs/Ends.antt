@@ -1,26 +1,21 @@
 -- Where the obligation is valid, two runs that start related end related.
-use Rattle.std.proofs.Common.{◌≡◌, ℕ, zero, suc, ◌+◌, pos, true, false, IsTrue, List, [], ◌∷◌, ◌++◌, length, drop, map, replicate, Option, Some, None, refl, sym, ap, subst, ◌∙◌, append_assoc}
-use Rattle.std.proofs.lemmas.List.{length-map}
-use Rattle.std.proofs.lemmas.List.Elements.{All-from_recursion}
+use Rattle.std.proofs.Common.{◌≡◌, zero, suc, pos, true, false, IsTrue, List, [], ◌∷◌, ◌++◌, length, replicate, Some, None, refl, sym, ap, subst, ◌∙◌}
 use Rattle.std.proofs.lemmas.Bool.Decides.{Decides-int_eq}
-use Rattle.std.specs.List.{AllByRecursion, slice_get}
-use Rattle.rel_list.specs.References.{Ref, Region}
+use Rattle.rel_list.specs.References.{Ref}
 use Rattle.rel_list.specs.Pairs.{Pairs}
-use Rattle.rel_lang.specs.Syntax.{Word, Type', int, Rel, agree, command, assign, Block, done, seq, Decl, Proc, UnitItem}
+use Rattle.rel_lang.specs.Syntax.{Type', int, Rel, agree, command, assign, Block, done, seq, Decl, Proc, UnitItem}
 use Rattle.rel_lang.specs.State.{Val, as_number, ref, rgn, default, Owner, item, call, State, Scope, find_variable, write_variable, with_defaults}
 use Rattle.rel_lang.specs.State as S
-use Rattle.rel_lang.specs.Value.{value_of}
 use Rattle.rel_lang.specs.Run.{program_of, pre_scope, post_scope, body_scope, own_variables, declared, result_name, result_variable}
 use Rattle.rel_lang.specs.Relation.{IsBijection, related, RelHolds}
-use Rattle.rel_lang.specs.Typed.{AreDistinct}
-use Rattle.rel_logic.specs.Syntax.{Srt, int_sort, rgn_sort, bij_sort}
+use Rattle.rel_logic.specs.Syntax.{Srt, int_sort}
 use Rattle.rel_logic.specs.Truth.{Elem, number, Valuation, value, HasSort, FitsSorts, IsMember, ArePartners, IsTrueAt, IsValid}
 use Rattle.rel_logic.specs.Truth as T
-use Rattle.rel_top.specs.Form.{Parts, IsPlainUnit}
-use Rattle.rel_top.specs.Obligation.{Store, term_of, walk, block_len, inside, relation_of, left_alloc, first_right, right_alloc, bijection, first_fresh, left_block, right_block, left_start, right_start, left_walk, right_walk, obligation_of}
-use Rattle.rel_top.proofs.Runs.{each_append, append_empty, final, IsNumber, AreFit, value_number, write_itself, final_fit}
-use Rattle.rel_top.proofs.PlainUnits.{start_fit, defaults_keep}
-use Rattle.rel_top.proofs.Walks.{Describes, Finds, describes_finds, term_value, walk_true, nth, at_here, at_next, at_after, assigned, length-assigned, follows, values_of, start_describes, start_finds}
+use Rattle.rel_top.specs.Form.{IsPlainUnit}
+use Rattle.rel_top.specs.Obligation.{Store, block_len, relation_of}
+use Rattle.rel_top.proofs.Runs.{append_empty, IsNumber, AreFit, value_number, write_itself}
+use Rattle.rel_top.proofs.PlainUnits.{defaults_keep}
+use Rattle.rel_top.proofs.Walks.{Finds, term_value, nth, assigned, values_of}
 
 -- ---- the scopes of a plain unit's procedure
 

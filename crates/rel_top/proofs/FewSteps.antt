@@ -1,9 +1,9 @@
 -- A proof file says few enough steps for numbers of 32 bits.
-use Rattle.std.proofs.Common.{◌≡◌, ℕ, suc, ◌<◌, ◌≤◌, ◌^◌, true, false, Bool, cond, List, [], ◌∷◌, length, Option, Some, None, option_map, option_and_then, refl, ap, arith}
+use Rattle.std.proofs.Common.{◌≡◌, ℕ, suc, ◌<◌, ◌^◌, true, false, Bool, cond, List, [], ◌∷◌, length, Option, Some, None, option_map, option_and_then, refl, ap, arith}
 use Rattle.std.proofs.lemmas.Bool.{leb-true}
 use Rattle.std.specs.Prelude.{nat_le}
 use Rattle.serde_json.specs.Data.{Data}
-use Rattle.rel_top.specs.declared.step.Step.{Step}
+use Rattle.rel_derive.specs.declared.step.Step.{Step}
 use Rattle.rel_top.specs.ProofFile.{traverse, step_of, steps_of, derivation_of, json_of, proof_of}
 
 length_traverse : {A B : Type 0} (f : A → Option B) (xs : List A) (ys : List B) → traverse f xs ≡ Some ys → length ys ≡ length xs

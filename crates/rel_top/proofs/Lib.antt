@@ -11,14 +11,5 @@ pub mod FormsScope
 pub mod FormsShape
 pub mod FormsUnit
 pub mod Obligations
-pub mod Weigh
-pub mod Stable
-pub mod Sound
-pub mod Combine
-pub mod TermForms
-pub mod NextForms
-pub mod Sums
-pub mod Stacks
-pub mod Exact
 pub mod Yes
 pub mod FewSteps

@@ -1,13 +1,11 @@
 -- A procedure of a plain unit meets its specification.
-use Rattle.std.proofs.Common.{◌≡◌, ℕ, true, false, pos, IsTrue, ⊎_elim, inl, inr, Some, List, [], ◌∷◌, ◌++◌, map, refl, sym, ap, subst, ◌∙◌}
+use Rattle.std.proofs.Common.{◌≡◌, true, IsTrue, ⊎_elim, inl, inr, Some, List, [], ◌∷◌, ◌++◌, map, refl, sym, ap, subst, ◌∙◌}
 use Rattle.std.specs.List.{AllByRecursion}
-use Rattle.std.specs.Str.{bytes_eq}
-use Rattle.rel_list.specs.References.{Obj, is_in}
 use Rattle.rel_lang.specs.Syntax.{Word, Type', Frm, top, command, assign, Block, done, seq, Decl, Effect, Proc, UnitItem}
-use Rattle.rel_lang.specs.State.{number, as_number, Owner, item, call, State, Variable, Scope, find_variable, write_variable, with_defaults, default, IsWellFormed}
-use Rattle.rel_lang.specs.Value.{value_of, holds}
-use Rattle.rel_lang.specs.Run.{Program, program_of, pre_scope, post_scope, body_scope, own_variables, result_variable, result_name, declared, Picks, finished, fault, body_run}
-use Rattle.rel_lang.specs.Meets.{IsListed, EndsWell, RunsWell, Meets}
+use Rattle.rel_lang.specs.State.{number, as_number, Owner, item, call, State, Scope, with_defaults, default, IsWellFormed}
+use Rattle.rel_lang.specs.Value.{holds}
+use Rattle.rel_lang.specs.Run.{Program, program_of, pre_scope, post_scope, body_scope, own_variables, result_variable, result_name, declared}
+use Rattle.rel_lang.specs.Meets.{IsListed, EndsWell, Meets}
 use Rattle.rel_lang.specs.Typed.{IsAmong, IsTypedUnit}
 use Rattle.rel_top.specs.Form.{ListsAssigned, IsPlainUnit}
 use Rattle.rel_top.proofs.Runs.{each_append, words_differ, final, run_end, final_heap, defaults_heap, AreFit, default_number, number_fits, write_fit, write_itself, write_others, write_found_other, final_fit}

@@ -6,20 +6,20 @@ use lib.ListN.{replicate-append-replicate}
 use Rattle.std.specs.List.{AllByRecursion}
 use Rattle.rel_list.specs.References.{is_in}
 use Rattle.rel_list.specs.Pairs.{Pairs}
-use Rattle.rel_lang.specs.Syntax.{Block, Proc, UnitItem}
+use Rattle.rel_lang.specs.Syntax.{Proc, UnitItem}
 use Rattle.rel_lang.specs.State.{Owner, item, State, Scope, with_defaults, IsWellFormed}
-use Rattle.rel_lang.specs.Run.{program_of, pre_scope, post_scope, body_scope, own_variables, result_variable, Picks, finished}
+use Rattle.rel_lang.specs.Run.{program_of, pre_scope, body_scope, own_variables, Picks, finished}
 use Rattle.rel_lang.specs.Relation.{IsBijection, RelHolds}
-use Rattle.rel_lang.specs.Judgement.{Subject, subject_run, EndsRelated, RunRelated, IsTrueOf}
+use Rattle.rel_lang.specs.Judgement.{Subject, subject_run, EndsRelated, IsTrueOf}
 use Rattle.rel_lang.specs.Typed.{AreDistinct}
-use Rattle.rel_logic.specs.Syntax.{Srt, int_sort, rgn_sort, bij_sort}
+use Rattle.rel_logic.specs.Syntax.{int_sort, rgn_sort, bij_sort}
 use Rattle.rel_logic.specs.Truth.{Elem, Valuation, FitsSorts, IsMember, ArePartners, as_pairs, as_rgn, IsTrueAt, IsValid}
 use Rattle.rel_logic.specs.Truth as T
 use Rattle.rel_top.specs.Form.{Parts, IsPlainUnit}
 use Rattle.rel_top.specs.Obligation.{numbered, walk, block_len, inside, relation_of, left_alloc, first_right, right_alloc, bijection, first_fresh, left_block, right_block, left_start, right_start, left_walk, right_walk, obligation_of}
 use Rattle.rel_top.proofs.Runs.{each_append, append_empty, final, final_alloc, defaults_alloc, run_end, AreFit, final_fit}
 use Rattle.rel_top.proofs.PlainUnits.{start_fit}
-use Rattle.rel_top.proofs.Walks.{Describes, Finds, describes_finds, walk_true, nth, at_here, at_next, at_after, assigned, length-assigned, follows, Follows, values_of, start_describes, start_finds}
+use Rattle.rel_top.proofs.Walks.{Describes, describes_finds, walk_true, nth, at_here, at_next, at_after, assigned, length-assigned, follows, values_of, start_describes, start_finds}
 use Rattle.rel_top.proofs.Ends.{Fit, globals_of, flat, flat_pre, flat_post, flat_body, result_zero, values_same, fit_sorts, fit_append, fit_values, fit_assigned, holds_true, true_holds, partners_inside}
 
 -- ---- one side: a procedure of a plain unit, from a well-formed state

@@ -1,14 +1,13 @@
 -- Straight-line runs of ints: where they end, what they leave as it was, and that their states stay well formed.
-use Rattle.std.proofs.Common.{◌≡◌, ◌≢◌, ℕ, zero, suc, Bool, true, false, ◌&&◌, if◌then◌else◌, IsTrue, ◌⊎◌, inl, inr, ⊎_elim, List, [], ◌∷◌, ◌++◌, map, Option, Some, None, refl, sym, ap, subst, ◌∙◌, MatchBool}
+use Rattle.std.proofs.Common.{◌≡◌, ℕ, zero, suc, Bool, true, false, ◌&&◌, if◌then◌else◌, List, [], ◌∷◌, ◌++◌, Option, Some, None, refl, sym, ap, ◌∙◌}
 use Rattle.std.specs.List.{AllByRecursion}
 use Rattle.std.specs.Str.{bytes_eq}
 use Rattle.std.proofs.lemmas.Slice.Eq.{bytes_eq-Decides}
-use Rattle.rel_list.specs.References.{Obj, Region, is_in}
-use Rattle.rel_lang.specs.Syntax.{Word, Type', int, Exp, var, num, add, sub, command, assign, Block, done, seq, Decl, Effect, global, Proc}
-use Rattle.rel_lang.specs.State.{Val, number, ref, rgn, as_number, default, Owner, item, call, same_owner, State, Variable, Scope, find_variable, with_variable, read_variable, write_variable, with_defaults, Field, Fits, IsWellFormed}
+use Rattle.rel_list.specs.References.{Region}
+use Rattle.rel_lang.specs.Syntax.{Word, Type', int, Exp, var, num, add, sub, command, assign, Block, done, seq}
+use Rattle.rel_lang.specs.State.{Val, number, ref, rgn, as_number, default, Owner, item, call, same_owner, State, Variable, Scope, find_variable, read_variable, write_variable, with_defaults, Fits}
 use Rattle.rel_lang.specs.Value.{value_of}
-use Rattle.rel_lang.specs.Run.{Program, pre_scope, body_scope, own_variables, result_variable, result_name, declared, Picks, Outcome, finished, out, steps, run_of, body_run}
-use Rattle.rel_lang.specs.Typed.{IsAmong}
+use Rattle.rel_lang.specs.Run.{Program, Picks, Outcome, finished, out, steps, run_of}
 
 -- ---- lists and tests
 

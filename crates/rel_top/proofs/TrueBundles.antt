@@ -1,13 +1,12 @@
 -- A bundle of the form whose obligation is valid is true.
-use Rattle.std.proofs.Common.{◌≡◌, true, false, if◌then◌else◌, IsSome, inl, inr, List, [], ◌∷◌, map, Option, Some, None, refl, sym, ap, subst, ◌∙◌}
+use Rattle.std.proofs.Common.{◌≡◌, if◌then◌else◌, inl, List, [], ◌∷◌, map, Option, Some, None, sym, ap, subst, ◌∙◌}
 use Rattle.std.specs.List.{AllByRecursion}
 use Rattle.std.specs.Option.{option_map, option_and_then}
-use Rattle.std.specs.Str.{bytes_eq}
 use Rattle.rel_lang.specs.Syntax.{Word, Proc, UnitItem, Item, unit, judge, Bundle}
 use Rattle.rel_lang.specs.Run.{program_of, body_scope}
 use Rattle.rel_lang.specs.Meets.{Meets}
 use Rattle.rel_lang.specs.Judgement.{Subject, find_unit, find_proc, subject_of, IsTrueOf, IsTrueJudgement}
-use Rattle.rel_lang.specs.Typed.{IsAmong, AreDistinct, IsTypedProc, IsTypedUnit, IsTypedItem, item_name}
+use Rattle.rel_lang.specs.Typed.{AreDistinct, IsTypedProc, IsTypedUnit, IsTypedItem, item_name}
 use Rattle.rel_lang.specs.TrueBundle.{IsTrueItem, IsTrueBundle}
 use Rattle.rel_logic.specs.Truth.{IsValid}
 use Rattle.rel_top.specs.Form.{Parts, IsPlainUnit, HasForm}

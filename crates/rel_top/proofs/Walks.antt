@@ -1,5 +1,5 @@
 -- A walk along a block: its equations are true of the values that the run assigns, and its store describes the state at the end.
-use Rattle.std.proofs.Common.{◌≡◌, ℕ, zero, suc, ◌+◌, ℤ, pos, ◌+ℤ◌, ◌-ℤ◌, true, false, if◌then◌else◌, ⊎_elim, inl, inr, List, [], ◌∷◌, ◌++◌, get_or, drop, length, map, Some, refl, sym, ap, ◌∙◌, arith}
+use Rattle.std.proofs.Common.{◌≡◌, ℕ, zero, suc, ◌+◌, pos, ◌+ℤ◌, ◌-ℤ◌, true, false, if◌then◌else◌, inl, inr, List, [], ◌∷◌, ◌++◌, get_or, drop, length, map, Some, refl, sym, ap, ◌∙◌, arith}
 use Rattle.std.specs.List.{AllByRecursion}
 use Rattle.std.specs.Str.{bytes_eq}
 use Rattle.rel_lang.specs.Syntax.{Word, Exp, var, num, add, sub, command, assign, Block, done, seq, Decl}
@@ -13,7 +13,7 @@ use Rattle.rel_logic.specs.Syntax as L
 use Rattle.rel_logic.specs.Truth.{Elem, number, Valuation, value, IsTrueAt}
 use Rattle.rel_logic.specs.Truth as T
 use Rattle.rel_top.specs.Obligation.{Store, look_up, with_term, term_of, numbered, walk, block_len}
-use Rattle.rel_top.proofs.Runs.{same_word, word_itself, words_differ, final, write_itself, write_other, write_found_other}
+use Rattle.rel_top.proofs.Runs.{words_differ, final, write_itself, write_other, write_found_other}
 
 -- ---- a store that describes a state
 

@@ -4,9 +4,5 @@ pub mod ProofFile
 pub mod Report
 pub mod Parts
 pub mod Scope
-pub mod Linear
-pub mod Forms
-pub mod Rules
-pub mod Stack
 pub mod Headline
 pub mod Judged

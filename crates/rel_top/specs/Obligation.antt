@@ -1,9 +1,9 @@
 -- The one obligation of such a bundle: where the two procedures end, the postcondition holds.
-use Rattle.std.specs.Prelude.{ℕ, suc, ◌+◌, pos, if◌then◌else◌, List, [], ◌∷◌, ◌++◌, length, map, replicate, bytes_eq}
+use Rattle.std.specs.Prelude.{ℕ, suc, ◌+◌, pos, if◌then◌else◌, List, [], ◌∷◌, ◌++◌, length, replicate, bytes_eq}
 use Rattle.rel_lang.specs.Syntax.{Word, Exp, Rel, agree, Cmd, command, Form, assign, Block, done, seq, Decl}
 use Rattle.rel_lang.specs.Syntax as L
 use Rattle.rel_lang.specs.Run.{result_name}
-use Rattle.rel_logic.specs.Syntax.{Srt, int_sort, rgn_sort, bij_sort, Trm, var, bound, int, add, sub, Fml, eq, member, paired, and, imp, every, ref_sort, Sqt}
+use Rattle.rel_logic.specs.Syntax.{int_sort, rgn_sort, bij_sort, Trm, var, bound, int, add, sub, Fml, eq, member, paired, and, imp, every, ref_sort, Sqt}
 use Rattle.rel_top.specs.Form.{Parts}
 
 -- the terms that stand for the variables now, in the order of the scope

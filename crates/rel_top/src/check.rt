@@ -7,14 +7,14 @@ ghost use Rattle.rel_top.specs.declared.status.Status.TheVariants.{Yes, Refused}
 ghost use Rattle.rel_top.specs.Headline.{WhereTold};
 ghost use Rattle.rel_top.specs.Judged.{HasFew, IsObligation, IsProved, IsEnough, IsJudgedTrue};
 
-use crate::checker::{Verdict, accepts};
 use crate::form::{Parts, parts_of};
 use crate::obligation::obligation;
 use crate::proof_file::{ProofFault, read_proof};
 use crate::report;
 use crate::status::Status;
-use crate::step::Step;
 use rel_decls::{TextFault, parse_bundle};
+use rel_derive::checker::{Verdict, accepts};
+use rel_derive::step::Step;
 use rel_io::{FileFault, Files};
 use rel_lang::bundle::Bundle;
 use rel_list::{List, Memory, Name};

@@ -2,15 +2,12 @@
 #![tactic(auto)]
 
 mod check;
-mod checker;
 mod form;
-mod linear;
 mod obligation;
 mod proof_file;
 mod report;
 mod run;
 mod status;
-mod step;
 
 use rel_io::{HostFiles, HostSink};
 use run::run;

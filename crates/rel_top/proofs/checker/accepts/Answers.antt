@@ -1,8 +1,0 @@
-use Rattle.std.proofs.lemmas.Result.{IfOk-weaker}
-use Rattle.rel_logic.specs.View.{sequent_of}
-use Rattle.rel_top.proofs.Exact.{verdict_is_exact}
-use Rattle.rel_top.proofs.checker.accepts.Goals as goal
-
-pub returns-clause-exact : goal.returns-clause-exact
-returns-clause-exact c =
-    IfOk-weaker c.verdict_of.result _ _ (λ v. verdict_is_exact (sequent_of c.args.sequent.now) c.args.steps.now v) c.verdict_of.ensures
