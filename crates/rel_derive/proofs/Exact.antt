@@ -1,13 +1,13 @@
--- A step moves a stack in one way at most, so steps are accepted exactly where the verdict says so.
-use Rattle.std.proofs.Common.{◌≡◌, ◌↔◌, ℕ, zero, suc, ◌<◌, List, [], ◌∷◌, ◌++◌, map, take, drop, length, Some, refl, sym, ap, subst, ◌∙◌, drop-cons, arith}
-use Rattle.std.proofs.lemmas.Option.{slice_get_within, get_or_from_slice_get}
+-- A step moves a stack in one way at most, so one verdict at most fits.
+use Rattle.std.proofs.Common.{◌≡◌, ◌↔◌, ℕ, zero, suc, ◌<◌, List, [], ◌∷◌, ◌++◌, map, take, length, slice_get, Some, refl, sym, ap, subst, subst₂, ◌∙◌, take_all, arith}
+use Rattle.std.proofs.lemmas.Option.{slice_get_within}
 use Rattle.rel_logic.specs.Syntax.{Fml, eq, lt, no, Sqt, Nod}
 use Rattle.rel_derive.specs.declared.step.Step.{Step}
 use Rattle.rel_derive.specs.declared.step.Step.TheVariants.{Neint, Farkas}
 use Rattle.rel_derive.specs.declared.checker.Verdict.{Verdict}
 use Rattle.rel_derive.specs.declared.checker.Verdict.TheVariants.{Accepted, BadStep, OpenNodes}
 use Rattle.rel_derive.specs.Rules.{SplitsAt, GoodStep, child, Moves, Runs, first_stack, IsAccepted}
-use Rattle.rel_derive.specs.Stack.{IsBadStep, LeavesOpen, IsVerdict}
+use Rattle.rel_derive.specs.Stack.{IsStuck, IsBadStep, LeavesOpen, IsVerdict}
 
 same_split : (n : Nod) (i : ℕ) (cs ds : List (List Fml)) → SplitsAt n i cs → SplitsAt n i ds → cs ≡ ds
 same_split n i cs ds p q =
@@ -28,20 +28,30 @@ same_run : (steps : List Step) (a b c : List Nod) → Runs a steps b → Runs a 
 same_run [] a b c r k = sym r ∙ k
 same_run (s ∷ steps) a b c r k = same_run steps r.0 b c r.2 (subst (λ x. Runs x steps c) (same_move a s k.0 r.0 k.1 r.1) k.2)
 
-run_parts : (k : ℕ) (steps : List Step) (a c : List Nod) → Runs a steps c → (b : List Nod) × Runs a (take k steps) b × Runs b (drop k steps) c
-run_parts zero steps a c r = (a, refl, r)
-run_parts (suc k) [] a c r = (a, refl, r)
-run_parts (suc k) (s ∷ steps) a c r = let rest = run_parts k steps r.0 c r.2 in (rest.0, (r.0, r.1, rest.1), rest.2)
+-- no run goes past a step that is stuck
+past_stuck : (steps : List Step) (k m : ℕ) (a b c : List Nod) (s : Step) → Runs a (take k steps) b → slice_get steps k ≡ Some s → IsStuck b s → k < m → ¬ (Runs a (take m steps) c)
+past_stuck [] k m a b c s r e stuck h run = cc
+past_stuck (x ∷ steps) k zero a b c s r e stuck h run = absurd (omega (arith, h))
+past_stuck (x ∷ steps) zero (suc m) a b c s r e stuck h run =
+    let same : x ≡ s = cc in
+    subst₂ IsStuck (sym r) (sym same) stuck run.0 run.1
+past_stuck (x ∷ steps) (suc k) (suc m) a b c s r e stuck h run =
+    let next = same_move a x run.0 r.0 run.1 r.1 in
+    past_stuck steps k m r.0 b c s r.2 e stuck (omega (arith, h)) (subst (λ n. Runs n (take m steps) c) next run.2)
 
-bad_is_not_accepted : (q : Sqt) (steps : List Step) (k : ℕ) → IsBadStep q steps k → ¬ (IsAccepted q steps)
-bad_is_not_accepted q steps k b accepted =
-    let parts = run_parts k steps (first_stack q) [] accepted in
-    let same : parts.0 ≡ b.stack = same_run (take k steps) (first_stack q) parts.0 b.stack parts.1 b.before in
-    let within : k < length steps = slice_get_within steps k b.step b.number in
-    let next : drop k steps ≡ b.step ∷ drop (suc k) steps =
-    drop-cons steps k b.step within ∙ ap (λ s. s ∷ drop (suc k) steps) (get_or_from_slice_get steps k b.step b.step b.number) in
-    let rest = subst (λ ss. Runs b.stack ss []) next (subst (λ x. Runs x (drop k steps) []) same parts.2) in
-    b.bad rest.0 rest.1
+bad_ends : (q : Sqt) (steps : List Step) (k m : ℕ) → IsBadStep q steps k → k < m → (c : List Nod) → ¬ (Runs (first_stack q) (take m steps) c)
+bad_ends q steps k m b h c = past_stuck steps k m (first_stack q) b.stack c b.step b.before b.number b.bad h
+
+bad_has_no_run : (q : Sqt) (steps : List Step) (k : ℕ) → IsBadStep q steps k → (c : List Nod) → ¬ (Runs (first_stack q) steps c)
+bad_has_no_run q steps k b c =
+    subst (λ all. ¬ (Runs (first_stack q) all c)) (take_all (length steps) steps (omega arith))
+    (bad_ends q steps k (length steps) b (slice_get_within steps k b.step b.number) c)
+
+same_number : (q : Sqt) (steps : List Step) (j k : ℕ) → IsBadStep q steps j → IsBadStep q steps k → j ≡ k
+same_number q steps j k a b =
+    let first : j < k → ⊥ = λ h. bad_ends q steps j k a h b.stack b.before in
+    let second : k < j → ⊥ = λ h. bad_ends q steps k j b h a.stack a.before in
+    omega (arith, first, second)
 
 open_is_not_accepted : (q : Sqt) (steps : List Step) (n : ℕ) → LeavesOpen q steps n → ¬ (IsAccepted q steps)
 open_is_not_accepted q steps n o accepted =
@@ -50,7 +60,21 @@ open_is_not_accepted q steps n o accepted =
     let count = o.open_nodes in
     absurd (omega (arith, none, some, count))
 
+same_count : (q : Sqt) (steps : List Step) (m n : ℕ) → LeavesOpen q steps m → LeavesOpen q steps n → m ≡ n
+same_count q steps m n o p = sym o.open_nodes ∙ ap length (same_run steps (first_stack q) o.stack p.stack o.run p.run) ∙ p.open_nodes
+
 pub verdict_is_exact : (q : Sqt) (steps : List Step) (v : Verdict) → IsVerdict q steps v → (v ≡ Accepted) ↔ IsAccepted q steps
 verdict_is_exact q steps Accepted h = (λ e. h.0, λ a. refl)
-verdict_is_exact q steps (BadStep k) h = (λ e. cc, λ a. absurd (bad_is_not_accepted q steps k h a))
+verdict_is_exact q steps (BadStep k) h = (λ e. cc, λ a. absurd (bad_has_no_run q steps k h [] a))
 verdict_is_exact q steps (OpenNodes n) h = (λ e. cc, λ a. absurd (open_is_not_accepted q steps n h a))
+
+pub verdict_is_only : (q : Sqt) (steps : List Step) (v : Verdict) → IsVerdict q steps v → (w : Verdict) → IsVerdict q steps w → w ≡ v
+verdict_is_only q steps Accepted h Accepted g = refl
+verdict_is_only q steps Accepted h (BadStep j) g = absurd (bad_has_no_run q steps j g [] h.0)
+verdict_is_only q steps Accepted h (OpenNodes n) g = absurd (open_is_not_accepted q steps n g h.0)
+verdict_is_only q steps (BadStep k) h Accepted g = absurd (bad_has_no_run q steps k h [] g.0)
+verdict_is_only q steps (BadStep k) h (BadStep j) g = ap BadStep (same_number q steps j k g h)
+verdict_is_only q steps (BadStep k) h (OpenNodes n) g = absurd (bad_has_no_run q steps k h g.stack g.run)
+verdict_is_only q steps (OpenNodes m) h Accepted g = absurd (open_is_not_accepted q steps m h g.0)
+verdict_is_only q steps (OpenNodes m) h (BadStep j) g = absurd (bad_has_no_run q steps j g h.stack h.run)
+verdict_is_only q steps (OpenNodes m) h (OpenNodes n) g = ap OpenNodes (same_count q steps n m g h)

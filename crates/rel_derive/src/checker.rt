@@ -2,6 +2,7 @@
 ghost use Rattle.std.specs.Prelude.{◌≡◌, ◌≢◌, ◌↔◌, ◌<◌, ◌^◌, [], ◌∷◌, length, IfOk, IsTrue, MatchOption};
 ghost use Rattle.rel_logic.specs.Syntax.{Trm, eq, lt, no};
 ghost use Rattle.rel_logic.specs.View.{trm_of, fml_of, sequent_of, node_of};
+ghost use Rattle.rel_derive.specs.declared.checker.Verdict.{Verdict};
 ghost use Rattle.rel_derive.specs.Rules.{child, first_stack, IsAccepted};
 ghost use Rattle.rel_derive.specs.Stack.{stack_of, DiffersAt, IsStepAnswer, IsVerdict};
 
@@ -204,6 +205,9 @@ pub fn accepts(alloc: Global, sequent: &Sequent, steps: &List<Step>) -> Result<V
     ensures verdict { IfOk result (λ v. IsVerdict (sequent_of sequent.now) steps.now v) }
     ensures exact { let q = sequent_of sequent.now in
         IfOk result (λ v. (v ≡ Verdict.Accepted) ↔ IsAccepted q steps.now) }
+    // No other verdict fits.
+    ensures only { let q = sequent_of sequent.now in
+        IfOk result (λ v. (w : Verdict) → IsVerdict q steps.now w → w ≡ v) }
 {
     verdict_of(alloc, sequent, steps)
 }
