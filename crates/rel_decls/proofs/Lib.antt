@@ -8,3 +8,4 @@ pub mod Grammar
 pub mod Commands
 pub mod Items
 pub mod Standing
+pub mod Within

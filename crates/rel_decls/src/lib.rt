@@ -32,6 +32,7 @@ pub fn parse_bundle(alloc: Global, text: &[u8]) -> Result<Bundle, TextFault>
     ensures only { (b : syntax.Bundle) → StandsFor text.now b → IfOk result (λ c. bundle_of c ≡ b) }
     ensures refused { result ≡ Err faults.Refused
         → (b : syntax.Bundle) → StandsFor text.now b → ¬ (Fits b) }
+    ensures fits { IfOk result (λ b. Fits (bundle_of b)) }
 {
     match from_utf8(text) {
         Ok(text) => read(alloc, text),
@@ -45,6 +46,7 @@ fn read(alloc: Global, text: &str) -> Result<Bundle, TextFault>
     ensures only { (b : syntax.Bundle) → StandsFor text.now b → IfOk result (λ c. bundle_of c ≡ b) }
     ensures refused { result ≡ Err faults.Refused
         → (b : syntax.Bundle) → StandsFor text.now b → ¬ (Fits b) }
+    ensures fits { IfOk result (λ b. Fits (bundle_of b)) }
 {
     let tokens = match lex(alloc, text) {
         Ok(tokens) => tokens,

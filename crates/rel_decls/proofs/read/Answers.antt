@@ -4,6 +4,7 @@ use Rattle.rel_decls.specs.declared.fault.TextFault.{TextFault}
 use Rattle.rel_decls.specs.declared.fault.TextFault.TheVariants as faults
 use Rattle.rel_decls.specs.Reading.{Fails, bundle_at}
 use Rattle.rel_decls.proofs.Standing.{stands_for, one_bundle, too_large}
+use Rattle.rel_decls.proofs.Within.{bundle_yields}
 use Rattle.rel_decls.proofs.read.Goals as goal
 
 pub returns-clause-stands : goal.returns-clause-stands
@@ -18,3 +19,6 @@ returns-in_err-bundle-clause-refused c = λ e b stands.
     let refused : c.in_err-bundle.field-0.0 ≡ faults.Refused = cc (p.1, p.2, e) in
     let none = subst (λ (x : TextFault). Fails x (bundle_at c.deref.result.now)) refused c.in_err-bundle.ensures in
     too_large c.args.text.now c.in-Ok.tokens.items b c.in-Ok.ensures.tokens c.in-Ok.ensures.kinds (rw (← c.deref.ensures.value) none) stands
+
+pub returns-clause-fits : goal.returns-clause-fits
+returns-clause-fits c = bundle_yields c.deref.result.now c.in_ok-bundle.field-0-1.now _ c.in_ok-bundle.ensures
