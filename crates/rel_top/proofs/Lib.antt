@@ -12,4 +12,6 @@ pub mod FormsShape
 pub mod FormsUnit
 pub mod Obligations
 pub mod Yes
+pub mod Verdicts
+pub mod Endings
 pub mod FewSteps

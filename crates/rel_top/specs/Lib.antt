@@ -5,4 +5,6 @@ pub mod Report
 pub mod Parts
 pub mod Scope
 pub mod Headline
+pub mod Verdict
+pub mod Ending
 pub mod Judged

@@ -1,11 +1,15 @@
 //! Judges a bundle by its proof file.
 
-ghost use Rattle.std.specs.Prelude.{◌≡◌, ◌^◌, ◌<◌, ◌≤◌, [], ◌∷◌, length, IfOk, IfSome, IsTrue};
-ghost use Rattle.rel_io.specs.Told.{IsToldAs};
-ghost use Rattle.rel_lang.specs.TrueBundle.{StandsForTrueBundle};
-ghost use Rattle.rel_top.specs.declared.status.Status.TheVariants.{Yes, Refused};
-ghost use Rattle.rel_top.specs.Headline.{WhereTold};
-ghost use Rattle.rel_top.specs.Judged.{HasFew, IsObligation, IsProved, IsEnough, IsJudgedTrue};
+ghost use Rattle.std.specs.Prelude.{◌≡◌, ◌≢◌, ◌^◌, ◌<◌, ◌≤◌, [], ◌∷◌, length, IfOk};
+ghost use Rattle.rel_io.specs.Told.{IsToldAs, IsLonger};
+ghost use Rattle.rel_io.specs.Answers.{IfFailed, UnlessFailed, IfTooLong};
+ghost use Rattle.rel_lang.specs.Limits.{Fits};
+ghost use Rattle.rel_lang.specs.View.{bundle_of};
+ghost use Rattle.rel_top.specs.Ending.{ReadFailed, unread, answer};
+ghost use Rattle.rel_top.specs.Judged.{HasFew, IsObligation, IsStepsAnswer, IsProofAnswer, IsPartsAnswer, IsBundleAnswer, IsTextAnswer, IsCheckAnswer, answer_of};
+ghost use Rattle.rel_top.specs.Parts.{parts_view};
+ghost use Rattle.rel_top.specs.Verdict.{no_bundle, judged, no_proof};
+ghost use Rattle.rel_top.specs.Verdict as V;
 
 use crate::form::{Parts, parts_of};
 use crate::obligation::obligation;
@@ -24,8 +28,6 @@ use std::alloc::Global;
 const BUNDLE_LIMIT: u64 = 1 << 22;
 
 const PROOF_LIMIT: u64 = 1 << 26;
-
-const LENGTH_LIMIT: usize = 1 << 30;
 
 /// What is to be printed, and the status to end with.
 #[derive(Drop)]
@@ -49,12 +51,15 @@ pub fn check<F: Files>(
     proof: &str,
     files: &mut F,
 ) -> Result<Answer, Memory>
-    ensures yes { IfOk result (λ a. a.status ≡ Yes →
-        WhereTold (F.told files.old bundle.now) StandsForTrueBundle) }
+    ensures answer { IfOk result (IsCheckAnswer (F.told files.old)
+        (ReadFailed (F.faults files.old) (F.faults files.new) (F.read_faults files.old) (F.read_faults files.new))
+        bundle.now proof.now) }
+    ensures contents_stay { F.told files.new ≡ F.told files.old }
+    ensures quiet { IfOk result (λ a. a.status ≢ Status.FileFault → F.faults files.new ≡ F.faults files.old) }
 {
     match content_of(alloc, bundle, BUNDLE_LIMIT, files) {
         Ok(text) => Ok(check_text(alloc, text.as_slice(), proof, files)?),
-        Err(FileFault::Failed) => Ok(unread(alloc, bundle)?),
+        Err(FileFault::Failed) => Ok(unreadable(alloc, bundle)?),
         Err(FileFault::TooLong) => Ok(without_bundle(alloc)?),
         Err(FileFault::Memory) => Err(Memory),
     }
@@ -69,44 +74,47 @@ fn content_of<F: Files>(
 ) -> Result<Vec<u8>, FileFault>
     ensures told { IfOk result (λ content. IsToldAs (F.told files.old name.now) content.items) }
     ensures within { IfOk result (λ content. length content.items ≤ limit) }
+    ensures too_long { IfTooLong result (IsLonger (F.told files.old name.now) limit) }
+    ensures failed { IfFailed result
+        (ReadFailed (F.faults files.old) (F.faults files.new) (F.read_faults files.old) (F.read_faults files.new) name.now) }
+    ensures contents_stay { F.told files.new ≡ F.told files.old }
+    ensures faults_stay { UnlessFailed result (F.faults files.new ≡ F.faults files.old) }
+    ensures read_faults_stay { UnlessFailed result (F.read_faults files.new ≡ F.read_faults files.old) }
 {
     files.read(alloc, name, limit)
 }
 
 /// A read of the file failed.
-fn unread(alloc: Global, name: &str) -> Result<Answer, Memory>
-    ensures { IfOk result (λ a. a.status ≡ Status.FileFault) }
+fn unreadable(alloc: Global, name: &str) -> Result<Answer, Memory>
+    ensures { IfOk result (λ a. a ≡ answer_of (unread name.now)) }
 {
     with_line(alloc, Status::FileFault, report::file_fault(alloc, name)?)
 }
 
-fn refused(alloc: Global, line: Name) -> Result<Answer, Memory>
-    ensures { IfOk result (λ a. a ≡ record { status = Refused; lines = line ∷ [] }) }
-{
-    with_line(alloc, Status::Refused, line)
-}
-
 fn without_bundle(alloc: Global) -> Result<Answer, Memory>
-    ensures { IfOk result (λ a. a.status ≡ Refused) }
+    ensures { IfOk result (λ a. a ≡ answer_of (answer no_bundle)) }
 {
-    refused(alloc, report::bundle_not_built(alloc)?)
+    with_line(alloc, Status::Refused, report::bundle_not_built(alloc)?)
 }
 
-fn without_proof(alloc: Global) -> Result<Answer, Memory>
-    ensures { IfOk result (λ a. a.status ≡ Refused) }
+fn without_proof(alloc: Global, parts: &Parts<'_>) -> Result<Answer, Memory>
+    ensures { IfOk result (λ a. a ≡ answer_of (answer (judged (parts_view parts.now) no_proof))) }
 {
-    refused(alloc, report::proof_not_built(alloc)?)
+    with_line(alloc, Status::Refused, report::proof_not_built(alloc)?)
 }
 
-#[tactic(auto, using(crate::proofs::Yes::judging))]
 fn check_text<F: Files>(
     alloc: Global,
     text: &[u8],
     proof: &str,
     files: &mut F,
 ) -> Result<Answer, Memory>
-    requires { length text.now < 2 ^ 32 }
-    ensures { IfOk result (λ a. a.status ≡ Yes → StandsForTrueBundle text.now) }
+    requires { length text.now ≤ 2 ^ 22 }
+    ensures answer { IfOk result (IsTextAnswer text.now (F.told files.old)
+        (ReadFailed (F.faults files.old) (F.faults files.new) (F.read_faults files.old) (F.read_faults files.new))
+        proof.now) }
+    ensures contents_stay { F.told files.new ≡ F.told files.old }
+    ensures quiet { IfOk result (λ a. a.status ≢ Status.FileFault → F.faults files.new ≡ F.faults files.old) }
 {
     match parse_bundle(alloc, text) {
         Ok(bundle) => Ok(check_bundle(alloc, &bundle, proof, files)?),
@@ -115,24 +123,18 @@ fn check_text<F: Files>(
     }
 }
 
-/// Whether the variables of the obligation have numbers of 32 bits.
-fn is_numbered(parts: &Parts<'_>) -> bool
-    ensures { IsTrue result → HasFew parts.now }
-{
-    parts.left.globals.len() < LENGTH_LIMIT
-        && parts.right.globals.len() < LENGTH_LIMIT
-        && parts.left_proc.body.commands.len() < LENGTH_LIMIT
-        && parts.right_proc.body.commands.len() < LENGTH_LIMIT
-}
-
-#[tactic(auto, using(crate::proofs::Yes::judging))]
 fn check_bundle<F: Files>(
     alloc: Global,
     bundle: &Bundle,
     proof: &str,
     files: &mut F,
 ) -> Result<Answer, Memory>
-    ensures { IfOk result (λ a. a.status ≡ Yes → IsJudgedTrue bundle.now) }
+    requires { Fits (bundle_of bundle.now) }
+    ensures answer { IfOk result (IsBundleAnswer (bundle_of bundle.now) (F.told files.old)
+        (ReadFailed (F.faults files.old) (F.faults files.new) (F.read_faults files.old) (F.read_faults files.new))
+        proof.now) }
+    ensures contents_stay { F.told files.new ≡ F.told files.old }
+    ensures quiet { IfOk result (λ a. a.status ≢ Status.FileFault → F.faults files.new ≡ F.faults files.old) }
 {
     match parts_of(bundle) {
         Some(parts) => Ok(check_parts(alloc, &parts, proof, files)?),
@@ -140,38 +142,37 @@ fn check_bundle<F: Files>(
     }
 }
 
-/// The obligation, where its variables have numbers of 32 bits.
-#[tactic(auto, using(crate::proofs::Yes::judging))]
-fn numbered(alloc: Global, parts: &Parts<'_>) -> Result<Option<Sequent>, Memory>
-    ensures { IfOk result (λ found. IfSome found (λ q. IsObligation q parts.now)) }
+/// The obligation of the parts.
+#[tactic(auto, using(crate::proofs::Verdicts::is_obligation))]
+fn obligation_in(alloc: Global, parts: &Parts<'_>) -> Result<Sequent, Memory>
+    requires { HasFew parts.now }
+    ensures { IfOk result (λ q. IsObligation q (parts_view parts.now)) }
 {
-    if !is_numbered(parts) {
-        return Ok(None);
-    }
-    let sequent = obligation(
+    obligation(
         alloc,
         parts.left,
         parts.left_proc,
         parts.right,
         parts.right_proc,
         parts.judgement,
-    )?;
-    Ok(Some(sequent))
+    )
 }
 
-#[tactic(auto, using(crate::proofs::Yes::judging))]
 fn check_parts<F: Files>(
     alloc: Global,
     parts: &Parts<'_>,
     proof: &str,
     files: &mut F,
 ) -> Result<Answer, Memory>
-    ensures { IfOk result (λ a. a.status ≡ Yes → IsEnough parts.now) }
+    requires { HasFew parts.now }
+    ensures answer { IfOk result (IsPartsAnswer (parts_view parts.now) (F.told files.old)
+        (ReadFailed (F.faults files.old) (F.faults files.new) (F.read_faults files.old) (F.read_faults files.new))
+        proof.now) }
+    ensures contents_stay { F.told files.new ≡ F.told files.old }
+    ensures quiet { IfOk result (λ a. a.status ≢ Status.FileFault → F.faults files.new ≡ F.faults files.old) }
 {
-    match numbered(alloc, parts)? {
-        Some(sequent) => Ok(check_sequent(alloc, parts, &sequent, proof, files)?),
-        None => Ok(without_bundle(alloc)?),
-    }
+    let sequent = obligation_in(alloc, parts)?;
+    Ok(check_sequent(alloc, parts, &sequent, proof, files)?)
 }
 
 fn check_sequent<F: Files>(
@@ -181,54 +182,57 @@ fn check_sequent<F: Files>(
     proof: &str,
     files: &mut F,
 ) -> Result<Answer, Memory>
-    ensures { IfOk result (λ a. a.status ≡ Yes → IsProved sequent.now) }
+    requires { IsObligation sequent.now (parts_view parts.now) }
+    ensures answer { IfOk result (IsPartsAnswer (parts_view parts.now) (F.told files.old)
+        (ReadFailed (F.faults files.old) (F.faults files.new) (F.read_faults files.old) (F.read_faults files.new))
+        proof.now) }
+    ensures contents_stay { F.told files.new ≡ F.told files.old }
+    ensures quiet { IfOk result (λ a. a.status ≢ Status.FileFault → F.faults files.new ≡ F.faults files.old) }
 {
     match content_of(alloc, proof, PROOF_LIMIT, files) {
         Ok(content) => Ok(check_proof(alloc, parts, sequent, content.as_slice())?),
-        Err(FileFault::Failed) => Ok(unread(alloc, proof)?),
-        Err(FileFault::TooLong) => Ok(without_proof(alloc)?),
+        Err(FileFault::Failed) => Ok(unreadable(alloc, proof)?),
+        Err(FileFault::TooLong) => Ok(without_proof(alloc, parts)?),
         Err(FileFault::Memory) => Err(Memory),
     }
 }
 
-#[tactic(auto, using(crate::proofs::FewSteps::few_steps))]
+#[tactic(auto, using(crate::proofs::Verdicts::of_proof))]
 fn check_proof(
     alloc: Global,
     parts: &Parts<'_>,
     sequent: &Sequent,
     proof: &[u8],
 ) -> Result<Answer, Memory>
-    ensures { IfOk result (λ a. a.status ≡ Yes → IsProved sequent.now) }
+    requires { IsObligation sequent.now (parts_view parts.now) }
+    ensures { IfOk result (IsProofAnswer (parts_view parts.now) proof.now) }
 {
     match read_proof(alloc, proof) {
         Ok(steps) => check_steps(alloc, parts, sequent, &steps),
-        Err(ProofFault::NotBuilt) => without_proof(alloc),
+        Err(ProofFault::NotBuilt) => without_proof(alloc, parts),
         Err(ProofFault::Memory) => Err(Memory),
     }
 }
 
-#[tactic(auto, using(crate::proofs::Yes::judging))]
 fn check_steps(
     alloc: Global,
     parts: &Parts<'_>,
     sequent: &Sequent,
     steps: &List<Step>,
 ) -> Result<Answer, Memory>
-    requires { length steps.now < 2 ^ 32 }
-    ensures { IfOk result (λ a. a.status ≡ Yes → IsProved sequent.now) }
+    requires few { length steps.now < 2 ^ 32 }
+    requires obligation { IsObligation sequent.now (parts_view parts.now) }
+    ensures { IfOk result (IsStepsAnswer (parts_view parts.now) steps.now) }
 {
     match accepts(alloc, sequent, steps)? {
         Verdict::Accepted => Ok(accepted(alloc, parts)?),
-        Verdict::BadStep(step) => refused(alloc, report::bad_step(alloc, parts.judgement, step)?),
-        Verdict::OpenNodes(nodes) => refused(
-            alloc,
-            report::open_nodes(alloc, parts.judgement, nodes)?,
-        ),
+        Verdict::BadStep(step) => Ok(bad_step(alloc, parts, step)?),
+        Verdict::OpenNodes(nodes) => Ok(open_nodes(alloc, parts, nodes)?),
     }
 }
 
 fn accepted(alloc: Global, parts: &Parts<'_>) -> Result<Answer, Memory>
-    ensures { IfOk result (λ a. a.status ≡ Yes) }
+    ensures { IfOk result (λ a. a ≡ answer_of (answer (judged (parts_view parts.now) V.accepted))) }
 {
     let mut lines = List::new(alloc);
     lines.push(report::unit(alloc, parts.left.name.as_str())?)?;
@@ -239,4 +243,20 @@ fn accepted(alloc: Global, parts: &Parts<'_>) -> Result<Answer, Memory>
         status: Status::Yes,
         lines,
     })
+}
+
+/// The step of this number isn't good.
+fn bad_step(alloc: Global, parts: &Parts<'_>, step: u32) -> Result<Answer, Memory>
+    ensures { IfOk result (λ a. a ≡ answer_of (answer (judged (parts_view parts.now) (V.bad_step step)))) }
+{
+    let line = report::bad_step(alloc, parts.judgement, step)?;
+    with_line(alloc, Status::Refused, line)
+}
+
+/// So many nodes are open after the last step.
+fn open_nodes(alloc: Global, parts: &Parts<'_>, nodes: u64) -> Result<Answer, Memory>
+    ensures { IfOk result (λ a. a ≡ answer_of (answer (judged (parts_view parts.now) (V.open_nodes nodes)))) }
+{
+    let line = report::open_nodes(alloc, parts.judgement, nodes)?;
+    with_line(alloc, Status::Refused, line)
 }

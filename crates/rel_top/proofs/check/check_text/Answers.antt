@@ -1,6 +1,13 @@
-use Rattle.rel_top.proofs.Yes.{only_true_bundles}
+use Rattle.std.proofs.Common.{ap, Err}
+use Rattle.rel_lang.specs.View.{bundle_of}
+use Rattle.rel_top.proofs.Verdicts.{bundle_read, text_refused}
 use Rattle.rel_top.proofs.check.check_text.Goals as goal
 
-pub returns-in_ok-check_bundle-in-Ok : goal.returns-in_ok-check_bundle-in-Ok
-returns-in_ok-check_bundle-in-Ok g c is_yes =
-    only_true_bundles c.args.text.now c.in-Ok.bundle c.in-Ok.ensures.stands c.in-Ok.ensures.only (c.in_ok-check_bundle-in-Ok.ensures is_yes)
+pub returns-in_ok-check_bundle-in-Ok-clause-answer : goal.returns-in_ok-check_bundle-in-Ok-clause-answer
+returns-in_ok-check_bundle-in-Ok-clause-answer g c =
+    let e = c.in-Ok.ensures in
+    bundle_read _ _ _ _ c.args.text.now (bundle_of c.in-Ok.bundle) c.requires e.stands e.fits e.only c.in_ok-check_bundle-in-Ok.ensures.answer
+
+pub returns-in_ok-without_bundle-in-Err-Refused-clause-answer : goal.returns-in_ok-without_bundle-in-Err-Refused-clause-answer
+returns-in_ok-without_bundle-in-Err-Refused-clause-answer g c =
+    text_refused _ _ _ _ c.args.text.now (c.in-Err-Refused.ensures.refused (ap Err c.in-Err-Refused.field-0-is)) c.in_ok-without_bundle-in-Err-Refused.ensures

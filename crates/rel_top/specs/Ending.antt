@@ -1,0 +1,91 @@
+-- How a call of `run` ends: which answer comes where, and what it prints.
+use Rattle.std.specs.Prelude.{◌≡◌, ◌≢◌, ◌⊎◌, ℕ, List, [], ◌∷◌, Option, codes}
+use Rattle.std.specs.List.{concat}
+use Rattle.rel_io.specs.Told.{Told, untold, Rose, Appends, AppendsFront}
+use Rattle.rel_top.specs.Report.{usage_line, fault_line}
+use Rattle.rel_top.specs.Verdict.{IsBuilt, Verdict, MayHold, HasVerdict, verdict_status, verdict_lines}
+use Rattle.rel_top.specs.Form.{Parts}
+use Rattle.rel_top.specs.declared.status.Status.{Status}
+use Rattle.rel_top.specs.declared.status.Status.TheVariants.{Yes, Refused, Usage, FileFault, OutputFault, Memory, Unproved}
+
+abbrev pub Words : Type 0
+Words = List (List ℕ)
+
+-- the words of `check`
+abbrev pub check_words : List ℕ → List ℕ → Words
+check_words bundle proof = codes "check" ∷ bundle ∷ proof ∷ []
+
+-- the words are no command, a file couldn't be read, or the two files were judged
+pub data Reply : Type 0 where
+  usage : Reply
+  unread : List ℕ → Reply
+  answer : Verdict → Reply
+
+-- the counts of faults, in all and of reads at this name, before and after the call: both rose
+abbrev pub ReadFailed : ℕ → ℕ → (List ℕ → ℕ) → (List ℕ → ℕ) → List ℕ → Type 0
+ReadFailed all new_all reads new_reads name = Rose all new_all × Rose (reads name) (new_reads name)
+
+-- where a read failed: the bundle's, or, of a bundle that can be judged, the proof's
+abbrev pub IsUnread : (List ℕ → Told) → (List ℕ → Type 0) → List ℕ → List ℕ → List ℕ → Type 0
+IsUnread told Failed bundle proof name = Failed name × ((name ≡ bundle) ⊎ ((name ≡ proof) × ((k : Parts) × MayHold (told bundle) (λ text. IsBuilt text k))))
+
+-- The reply comes where it may: of files that tell this, of which reads at these names failed, to these words.
+abbrev pub HasReply : (List ℕ → Told) → (List ℕ → Type 0) → Words → Reply → Type 0
+HasReply told Failed words usage = (bundle proof : List ℕ) → words ≢ check_words bundle proof
+HasReply told Failed words (unread name) = (bundle : List ℕ) × (proof : List ℕ) × (words ≡ check_words bundle proof) × IsUnread told Failed bundle proof name
+HasReply told Failed words (answer v) = (bundle : List ℕ) × (proof : List ℕ) × (words ≡ check_words bundle proof) × HasVerdict (told bundle) (told proof) v
+
+abbrev pub status_of : Reply → Status
+status_of usage = Usage
+status_of (unread name) = FileFault
+status_of (answer v) = verdict_status v
+
+abbrev pub lines_of : Reply → List (List ℕ)
+lines_of usage = usage_line ∷ []
+lines_of (unread name) = fault_line name ∷ []
+lines_of (answer v) = verdict_lines v
+
+-- what the output was given before and after the call, and its count of faults
+pub record Output : Type 0 where
+  pub written : Option (List ℕ)
+  pub new_written : Option (List ℕ)
+  pub faults : ℕ
+  pub new_faults : ℕ
+
+abbrev pub output : Option (List ℕ) → Option (List ℕ) → ℕ → ℕ → Output
+output written new_written faults new_faults = record { written = written; new_written = new_written; faults = faults; new_faults = new_faults }
+
+-- all lines were put, and no put failed
+pub record IsPrinted (out : Output) (lines : List (List ℕ)) : Type 0 where
+  pub all : Appends out.written out.new_written (concat lines)
+  pub quiet : out.new_faults ≡ out.faults
+
+-- a put failed, and nothing behind it was put
+pub record IsCutOff (out : Output) (lines : List (List ℕ)) : Type 0 where
+  pub front : AppendsFront out.written out.new_written (concat lines)
+  pub failed : Rose out.faults out.new_faults
+
+-- nothing was put
+pub record IsSilent (out : Output) : Type 0 where
+  pub nothing : out.new_written ≡ out.written
+  pub quiet : out.new_faults ≡ out.faults
+
+-- The lines of the reply were printed and the status is the reply's, or a put failed, or there was no memory.
+abbrev pub EndsWith : Reply → Output → Status → Type 0
+EndsWith r out Yes = (status_of r ≡ Yes) × IsPrinted out (lines_of r)
+EndsWith r out Refused = (status_of r ≡ Refused) × IsPrinted out (lines_of r)
+EndsWith r out Usage = (status_of r ≡ Usage) × IsPrinted out (lines_of r)
+EndsWith r out FileFault = (status_of r ≡ FileFault) × IsPrinted out (lines_of r)
+EndsWith r out OutputFault = IsCutOff out (lines_of r)
+EndsWith r out Memory = IsSilent out
+EndsWith r out Unproved = ⊥
+
+-- There was no memory, or the call ends with a reply that comes where it may.
+unfoldable pub Ends : (Reply → Type 0) → Output → Status → Type 0
+Ends Has out status = ((status ≡ Memory) × IsSilent out) ⊎ ((r : Reply) × Has r × EndsWith r out status)
+
+-- Where both files are told and no read failed, the call ends with the one verdict on them.
+unfoldable pub IsDecided : (List ℕ → Told) → Type 0 → Words → Output → Status → Type 0
+IsDecided told FilesFailed words out status =
+    (bundle proof : List ℕ) (v : Verdict) → words ≡ check_words bundle proof → told bundle ≢ untold → told proof ≢ untold
+    → ¬ FilesFailed → HasVerdict (told bundle) (told proof) v → EndsWith (answer v) out status
