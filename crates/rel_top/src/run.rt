@@ -60,3 +60,6 @@ fn print_answer<S: Sink>(out: &mut S, answer: &Answer) -> Status
     }
     answer.status
 }
+
+#[cfg(test)]
+mod tests;
