@@ -97,3 +97,6 @@ fn put_lines<S: Sink>(out: &mut S, lines: &Lines<Name>) -> Result<(), SinkFault>
     }
     Ok(())
 }
+
+#[cfg(test)]
+mod tests;

@@ -1,0 +1,776 @@
+//! What is answered and printed, over files and a sink in memory.
+
+ghost use Rattle.std.specs.Prelude.{◌≡◌, IfOk};
+ghost use Rattle.rel_io.specs.Memory.{HaveDistinctNames};
+
+use super::run;
+use rel_io::{MemFiles, MemSink};
+use rel_list::{List, Memory, Name};
+use std::alloc::Global;
+use std::process::Abort;
+use std::test::Fail;
+
+/// `x := x + 1; x := x + 1` on the left.
+const FIRST: &str =
+    "unit U { global x : int ; proc p ( ) : int requires true ensures true writes { x } \
+    { x := ( x + 1 ) ; x := ( x + 1 ) ; } }\n";
+
+/// `x := x + 2` on the right.
+const SECOND: &str =
+    "unit V { global x : int ; proc q ( ) : int requires true ensures true writes { x } \
+    { x := ( x + 2 ) ; } }\n";
+
+const JUDGE: &str = "judge J : U . p ~ V . q requires ( x =:= x ) ensures ( x =:= x ) \
+    bi { split { x := ( x + 1 ) ; x := ( x + 1 ) ; } { x := ( x + 2 ) ; } ; }\n";
+
+const PROOF: &str = "{\"whyrel\":1,\"proofs\":[[[\"neint\",5],\
+    [\"farkas\",[[6,\"1\"],[3,\"-1\"],[2,\"-1\"],[1,\"-1\"],[4,\"1\"]]],\
+    [\"farkas\",[[6,\"1\"],[3,\"1\"],[2,\"1\"],[1,\"1\"],[4,\"-1\"]]]]]}";
+
+const CHECK: [&str; 3] = ["check", "sum.rel", "sum.json"];
+
+const YES: &str = "0|unit U: 0 obligations\nunit V: 0 obligations\n\
+    judge J: 1 obligations\nyes: 3 items, 1 obligations\n";
+
+const USAGE: &str = "2|usage: whyrel check BUNDLE PROOF | prove BUNDLE OUT BUDGET | \
+    obligations BUNDLE | show BUNDLE | big N BUDGET\n";
+
+const NO_BUNDLE: &str = "1|refused NotBuilt bundle\n";
+
+const NO_PROOF: &str = "1|refused NotBuilt proof\n";
+
+const BUNDLE_FAULT: &str = "3|file fault: sum.rel\n";
+
+const PROOF_FAULT: &str = "3|file fault: sum.json\n";
+
+/// A call of the program: its words, what stands in the two files, and which reads and puts fail.
+#[derive(Clone, Copy)]
+struct Call<'a> {
+    words: &'a [&'a str],
+    bundle: &'a [u8],
+    proof: &'a [u8],
+    file_fails: &'a [u64],
+    sink_fails: &'a [u64],
+}
+
+/// The call that judges the bundle by the proof, where nothing fails.
+fn checking<'a>(bundle: &'a [u8], proof: &'a [u8]) -> Call<'a> {
+    Call {
+        words: &CHECK,
+        bundle,
+        proof,
+        file_fails: &[],
+        sink_fails: &[],
+    }
+}
+
+fn file(alloc: Global, name: &str, content: &[u8]) -> Result<(Name, List<u8>), Memory>
+    ensures { IfOk result (λ file. file.0 ≡ name.now) }
+{
+    let name = Name::new(alloc, name)?;
+    let items = Vec::from_slice(alloc, content)?;
+    Ok((name, List { items }))
+}
+
+fn two_files(alloc: Global, bundle: &[u8], proof: &[u8]) -> Result<List<(Name, List<u8>)>, Memory>
+    ensures { IfOk result HaveDistinctNames }
+{
+    let mut files = List::new(alloc);
+    files.push(file(alloc, "sum.rel", bundle)?)?;
+    files.push(file(alloc, "sum.json", proof)?)?;
+    Ok(files)
+}
+
+fn numbers(alloc: Global, given: &[u64]) -> Result<List<u64>, Memory> {
+    let mut numbers = List::new(alloc);
+    for number in given {
+        numbers.push(*number)?;
+    }
+    Ok(numbers)
+}
+
+fn texts(alloc: Global, given: &[&str]) -> Result<Vec<String>, Memory> {
+    let mut texts = Vec::new(alloc);
+    for text in given {
+        texts.push(String::from_str(alloc, text)?)?;
+    }
+    Ok(texts)
+}
+
+/// Whether these bytes stand under the name.
+fn holds(files: &MemFiles, name: &str, content: &[u8]) -> bool {
+    match files.bytes(name) {
+        Some(bytes) => bytes == content,
+        None => false,
+    }
+}
+
+/// The status, and what was printed. The files stay as they are.
+fn outcome(alloc: Global, call: Call<'_>) -> Result<String, Fail> {
+    let words = texts(alloc, call.words)?;
+    let files = two_files(alloc, call.bundle, call.proof)?;
+    let mut files = MemFiles::new(files, numbers(alloc, call.file_fails)?);
+    let mut sink = MemSink::new(alloc, 4096, numbers(alloc, call.sink_fails)?)?;
+    let status = run(alloc, words.as_slice(), &mut files, &mut sink) as u8;
+    if !holds(&files, "sum.rel", call.bundle) || !holds(&files, "sum.json", call.proof) {
+        return Err(Fail::from("a file was changed"));
+    }
+    let printed = str::from_utf8(sink.bytes())?;
+    Ok(format!(in alloc; "{status}|{printed}")?)
+}
+
+/// The text with another piece in each place of the old one, which stands there.
+fn replaced(alloc: Global, text: &str, old: &str, new: &str) -> Result<String, Fail> {
+    text.find(old).ok_or("the piece isn't there")?;
+    let mut changed = String::new(alloc);
+    for (number, part) in text.split(old).enumerate() {
+        if number > 0 {
+            changed.push_str(new)?;
+        }
+        changed.push_str(part)?;
+    }
+    Ok(changed)
+}
+
+fn good(alloc: Global) -> Result<String, Fail> {
+    Ok(format!(in alloc; "{FIRST}{SECOND}{JUDGE}")?)
+}
+
+/// The good bundle with another piece in each place of the old one.
+fn good_but(alloc: Global, old: &str, new: &str) -> Result<String, Fail> {
+    replaced(alloc, good(alloc)?.as_str(), old, new)
+}
+
+#[test]
+fn a_true_bundle_and_its_proof_give_yes(rt: HostRuntime) -> Result<(), Fail> {
+    let bundle = good(rt.alloc())?;
+    assert_eq!(rt; bundle.len(), 368);
+    let call = checking(bundle.as_bytes(), PROOF.as_bytes());
+    assert_eq!(rt; outcome(rt.alloc(), call)?.as_str(), YES);
+    Ok(())
+}
+
+/// The call prints one line and ends so, whichever puts after the first fail. A first one that fails prints nothing.
+fn puts_one_line(
+    rt: &impl Abort,
+    alloc: Global,
+    case: &str,
+    call: Call<'_>,
+    expected: &str,
+) -> Result<(), Fail> {
+    assert_eq!(rt; outcome(alloc, call)?.as_str(), expected, "{case}");
+    let full = Call {
+        sink_fails: &[0],
+        ..call
+    };
+    assert_eq!(rt; outcome(alloc, full)?.as_str(), "4|", "{case}");
+    let later = Call {
+        sink_fails: &[1],
+        ..call
+    };
+    assert_eq!(rt; outcome(alloc, later)?.as_str(), expected, "{case}");
+    Ok(())
+}
+
+/// The bundle is refused, and the proof isn't read.
+fn refuses_bundle(rt: &impl Abort, alloc: Global, case: &str, bundle: &[u8]) -> Result<(), Fail> {
+    let call = checking(bundle, PROOF.as_bytes());
+    puts_one_line(rt, alloc, case, call, NO_BUNDLE)?;
+    let without_bundle = Call {
+        file_fails: &[0],
+        ..call
+    };
+    puts_one_line(rt, alloc, case, without_bundle, BUNDLE_FAULT)?;
+    let without_proof = Call {
+        file_fails: &[1],
+        ..call
+    };
+    puts_one_line(rt, alloc, case, without_proof, NO_BUNDLE)
+}
+
+/// The bundle and the proof are read, and then this comes.
+fn ends_after_both(
+    rt: &impl Abort,
+    alloc: Global,
+    case: &str,
+    call: Call<'_>,
+    expected: &str,
+) -> Result<(), Fail> {
+    puts_one_line(rt, alloc, case, call, expected)?;
+    let without_bundle = Call {
+        file_fails: &[0],
+        ..call
+    };
+    puts_one_line(rt, alloc, case, without_bundle, BUNDLE_FAULT)?;
+    let without_proof = Call {
+        file_fails: &[1],
+        ..call
+    };
+    puts_one_line(rt, alloc, case, without_proof, PROOF_FAULT)?;
+    let later = Call {
+        file_fails: &[2],
+        ..call
+    };
+    puts_one_line(rt, alloc, case, later, expected)
+}
+
+/// With these faults of the files and of the sink, the good bundle and proof end so.
+const FAULTS: [(&[u64], &[u64], &str); 11] = [
+    (&[0], &[], BUNDLE_FAULT),
+    (&[0, 1], &[], BUNDLE_FAULT),
+    (&[1], &[], PROOF_FAULT),
+    (&[2], &[], YES),
+    (&[0], &[0], "4|"),
+    (&[], &[0], "4|"),
+    (&[], &[1], "4|unit U: 0 obligations\n"),
+    (
+        &[],
+        &[2],
+        "4|unit U: 0 obligations\nunit V: 0 obligations\n",
+    ),
+    (
+        &[],
+        &[3],
+        "4|unit U: 0 obligations\nunit V: 0 obligations\njudge J: 1 obligations\n",
+    ),
+    (&[], &[4], YES),
+    (&[2], &[4, 5], YES),
+];
+
+#[test]
+fn each_fault_ends_the_call(rt: HostRuntime) -> Result<(), Fail> {
+    let bundle = good(rt.alloc())?;
+    let call = checking(bundle.as_bytes(), PROOF.as_bytes());
+    for (file_fails, sink_fails, expected) in FAULTS {
+        let failing = Call {
+            file_fails,
+            sink_fails,
+            ..call
+        };
+        assert_eq!(rt;
+            outcome(rt.alloc(), failing)?.as_str(),
+            expected,
+            "{expected}"
+        );
+    }
+    Ok(())
+}
+
+const USAGE_WORDS: [&[&str]; 9] = [
+    &[],
+    &["check"],
+    &["check", "sum.rel"],
+    &["check", "sum.rel", "sum.json", "sum.json"],
+    &["show", "sum.rel"],
+    &["Check", "sum.rel", "sum.json"],
+    &["", "sum.rel", "sum.json"],
+    &["prove", "sum.rel", "sum.json"],
+    &["sum.rel", "sum.json", "check"],
+];
+
+#[test]
+fn other_words_give_the_usage(rt: HostRuntime) -> Result<(), Fail> {
+    let bundle = good(rt.alloc())?;
+    let call = checking(bundle.as_bytes(), PROOF.as_bytes());
+    for words in USAGE_WORDS {
+        let other = Call { words, ..call };
+        puts_one_line(&rt, rt.alloc(), "words", other, USAGE)?;
+        let faulty = Call {
+            file_fails: &[0, 1],
+            ..other
+        };
+        puts_one_line(&rt, rt.alloc(), "words", faulty, USAGE)?;
+    }
+    Ok(())
+}
+
+#[test]
+fn a_missing_file_is_named(rt: HostRuntime) -> Result<(), Fail> {
+    let bundle = good(rt.alloc())?;
+    let call = checking(bundle.as_bytes(), PROOF.as_bytes());
+    let cases: [(&[&str], &str); 4] = [
+        (
+            &["check", "none.rel", "sum.json"],
+            "3|file fault: none.rel\n",
+        ),
+        (
+            &["check", "sum.rel", "none.json"],
+            "3|file fault: none.json\n",
+        ),
+        (
+            &["check", "none.rel", "none.json"],
+            "3|file fault: none.rel\n",
+        ),
+        (&["check", "", "sum.json"], "3|file fault: \n"),
+    ];
+    for (words, expected) in cases {
+        puts_one_line(&rt, rt.alloc(), expected, Call { words, ..call }, expected)?;
+    }
+    Ok(())
+}
+
+#[test]
+fn a_refused_bundle_comes_before_a_missing_proof(rt: HostRuntime) -> Result<(), Fail> {
+    let call = checking(b"unit", PROOF.as_bytes());
+    let missing = Call {
+        words: &["check", "sum.rel", "none.json"],
+        ..call
+    };
+    puts_one_line(&rt, rt.alloc(), "no proof", missing, NO_BUNDLE)
+}
+
+/// The last step of the proof.
+const LAST_STEP: &str = ",[\"farkas\",[[6,\"1\"],[3,\"1\"],[2,\"1\"],[1,\"1\"],[4,\"-1\"]]]";
+
+/// Pieces of the good bundle and of its proof, what stands there in their place, and the end. The same piece
+/// changes nothing.
+const UNFIT: [(&str, &str, &str, &str, &str); 11] = [
+    (
+        "2",
+        "3",
+        "5",
+        "5",
+        "1|refused BadStep obligation 0 step 1 in judge J at 229\n",
+    ),
+    (
+        "2",
+        "170141183460469231731687303715884105727",
+        "5",
+        "5",
+        "1|refused BadStep obligation 0 step 1 in judge J at 267\n",
+    ),
+    (
+        "J",
+        "J",
+        LAST_STEP,
+        "",
+        "1|refused OpenNodes 1 obligation 0 in judge J at 229\n",
+    ),
+    (
+        "J",
+        "Main",
+        LAST_STEP,
+        "",
+        "1|refused OpenNodes 1 obligation 0 in judge Main at 229\n",
+    ),
+    (
+        "judge",
+        "// é\njudge",
+        LAST_STEP,
+        "",
+        "1|refused OpenNodes 1 obligation 0 in judge J at 235\n",
+    ),
+    (
+        "J",
+        "J",
+        "]]]]]}",
+        "]]],[\"neint\",5]]]}",
+        "1|refused BadStep obligation 0 step 3 in judge J at 229\n",
+    ),
+    (
+        "J",
+        "J",
+        "]]]]]}",
+        "]]],[\"farkas\",[]]]]}",
+        "1|refused BadStep obligation 0 step 3 in judge J at 229\n",
+    ),
+    (
+        "J",
+        "J",
+        "5",
+        "4",
+        "1|refused BadStep obligation 0 step 0 in judge J at 229\n",
+    ),
+    (
+        "J",
+        "J",
+        "5",
+        "6",
+        "1|refused BadStep obligation 0 step 0 in judge J at 229\n",
+    ),
+    (
+        "J",
+        "J",
+        "[6,",
+        "[0,",
+        "1|refused BadStep obligation 0 step 1 in judge J at 229\n",
+    ),
+    (
+        "J",
+        "J",
+        "[6,\"1\"]",
+        "[6,\"-1\"]",
+        "1|refused BadStep obligation 0 step 1 in judge J at 229\n",
+    ),
+];
+
+#[test]
+fn a_derivation_that_does_not_fit_is_refused_at_its_step(rt: HostRuntime) -> Result<(), Fail> {
+    let alloc = rt.alloc();
+    for (piece, new, step, other, expected) in UNFIT {
+        let bundle = good_but(alloc, piece, new)?;
+        let proof = replaced(alloc, PROOF, step, other)?;
+        let call = checking(bundle.as_bytes(), proof.as_bytes());
+        ends_after_both(&rt, rt.alloc(), expected, call, expected)?;
+    }
+    Ok(())
+}
+
+/// Pieces of the good bundle, and texts in whose place there no tokens or no grammar is.
+const ILL_FORMED: [(&str, &str); 15] = [
+    ("( x + 2 )", "( x % 2 )"),
+    ("unit U", "\u{feff}unit U"),
+    ("unit U", "\u{c}unit U"),
+    ("unit U", "/ unit U"),
+    ("2", "170141183460469231731687303715884105728"),
+    ("2", "02"),
+    ("( x + 2 )", "( ( x + 2 ) )"),
+    ("( x + 1 )", "( ( x + 1 ) )"),
+    ("( x + 2 )", "x + 2"),
+    ("( x + 2 )", "( x * 2 )"),
+    ("( x + 2 )", "( x + 2"),
+    ("U", "bi"),
+    ("J", "judge"),
+    ("x", "int"),
+    ("( x =:= x )", "x =:= x"),
+];
+
+/// Pieces of the good bundle, and texts in whose place it isn't typed.
+const UNTYPED: [(&str, &str); 23] = [
+    ("V", "U"),
+    ("J", "U"),
+    ("J", "V"),
+    (
+        "U { global x : int ;",
+        "U { global x : int ; global x : int ;",
+    ),
+    (
+        "V { global x : int ;",
+        "V { global x : int ; global x : int ;",
+    ),
+    (
+        "U { global x : int ;",
+        "U { global x : int ; global result : int ;",
+    ),
+    (
+        "V { global x : int ;",
+        "V { global x : int ; global result : int ;",
+    ),
+    ("U { global x : int ;", "U {"),
+    (": U .", ": W ."),
+    ("~ V .", "~ W ."),
+    (". p", ". r"),
+    (". q", ". r"),
+    ("x := ( x + 2 ) ;", "x := ( x + 2 ) ; y := 1 ;"),
+    ("( x + 2 )", "( x + y )"),
+    ("( x + 2 )", "( ( y - y ) + ( x + 2 ) )"),
+    ("requires ( x =:= x )", "requires ( y =:= x )"),
+    ("requires ( x =:= x )", "requires ( x =:= y )"),
+    ("requires ( x =:= x )", "requires ( result =:= x )"),
+    ("requires ( x =:= x )", "requires ( x =:= result )"),
+    ("ensures ( x =:= x )", "ensures ( y =:= x )"),
+    ("ensures ( x =:= x )", "ensures ( x =:= y )"),
+    ("{ x } { x := ( x + 1 )", "{ x , y } { x := ( x + 1 )"),
+    ("{ x } { x := ( x + 2 )", "{ x , y } { x := ( x + 2 )"),
+];
+
+/// Pieces of the good bundle, and texts in whose place it is of another form.
+const OTHER_FORMS: [(&str, &str); 17] = [
+    ("{ x } { x := ( x + 1 )", "{ } { x := ( x + 1 )"),
+    ("{ x } { x := ( x + 2 )", "{ } { x := ( x + 2 )"),
+    ("U . p ~ V . q", "V . q ~ U . p"),
+    ("U . p ~ V . q", "U . p ~ U . p"),
+    ("split { x := ( x + 1 ) ;", "split { x := ( x + 2 ) ;"),
+    ("split { x := ( x + 1 ) ;", "split { x := ( 1 + x ) ;"),
+    ("split { x := ( x + 1 ) ;", "split {"),
+    ("( x + 2 ) ; } ; }", "( x + 1 ) ; } ; }"),
+    ("( x + 2 ) ; } ; }", "( x + 2 ) ; x := x ; } ; }"),
+    ("bi { split", "bi { split { } { } ; split"),
+    ("judge", "unit W { } judge"),
+    ("proc p ( )", "proc p ( y : int )"),
+    ("proc q ( )", "proc q ( y : int )"),
+    (
+        "{ x } { x := ( x + 1 )",
+        "{ x } { var y : int ; x := ( x + 1 )",
+    ),
+    (
+        "{ x } { x := ( x + 2 )",
+        "{ x } { var y : int ; x := ( x + 2 )",
+    ),
+    (
+        "proc p",
+        "proc r ( ) : int requires true ensures true writes { } { } proc p",
+    ),
+    (
+        "proc q",
+        "proc r ( ) : int requires true ensures true writes { } { } proc q",
+    ),
+];
+
+fn are_refused(rt: &impl Abort, alloc: Global, changes: &[(&str, &str)]) -> Result<(), Fail> {
+    for (piece, new) in changes {
+        let bundle = good_but(alloc, piece, new)?;
+        refuses_bundle(rt, alloc, bundle.as_str(), bundle.as_bytes())?;
+    }
+    Ok(())
+}
+
+#[test]
+fn what_the_grammar_does_not_have_is_refused(rt: HostRuntime) -> Result<(), Fail> {
+    are_refused(&rt, rt.alloc(), &ILL_FORMED)
+}
+
+#[test]
+fn what_is_not_typed_is_refused(rt: HostRuntime) -> Result<(), Fail> {
+    are_refused(&rt, rt.alloc(), &UNTYPED)
+}
+
+#[test]
+fn another_form_is_refused(rt: HostRuntime) -> Result<(), Fail> {
+    are_refused(&rt, rt.alloc(), &OTHER_FORMS)
+}
+
+/// The right unit first and the judgement turned round with it, and then the split too.
+#[test]
+fn only_the_first_unit_stands_on_the_left(rt: HostRuntime) -> Result<(), Fail> {
+    let alloc = rt.alloc();
+    let turned = good_but(
+        alloc,
+        "{ x := ( x + 1 ) ; x := ( x + 1 ) ; } { x := ( x + 2 ) ; }",
+        "{ x := ( x + 2 ) ; } { x := ( x + 1 ) ; x := ( x + 1 ) ; }",
+    )?;
+    refuses_bundle(&rt, rt.alloc(), "turned split", turned.as_bytes())?;
+    let turned = replaced(alloc, turned.as_str(), "U . p ~ V . q", "V . q ~ U . p")?;
+    refuses_bundle(&rt, rt.alloc(), "turned judgement", turned.as_bytes())?;
+    let turned = format!(in alloc; "{SECOND}{FIRST}{JUDGE}")?;
+    refuses_bundle(&rt, rt.alloc(), "turned units", turned.as_bytes())
+}
+
+#[test]
+fn other_items_are_refused(rt: HostRuntime) -> Result<(), Fail> {
+    let second_judge = replaced(rt.alloc(), JUDGE, "J", "K")?;
+    let second_judge = second_judge.as_str();
+    let cases: [[&str; 4]; 7] = [
+        [FIRST, SECOND, "", ""],
+        [FIRST, "", "", ""],
+        ["", "", JUDGE, ""],
+        [FIRST, "unit V { }", JUDGE, ""],
+        ["unit U { }", SECOND, JUDGE, ""],
+        [FIRST, JUDGE, SECOND, ""],
+        [FIRST, SECOND, JUDGE, second_judge],
+    ];
+    for [first, second, third, fourth] in cases {
+        let bundle = format!(in rt.alloc(); "{first}{second}{third}{fourth}")?;
+        refuses_bundle(&rt, rt.alloc(), bundle.as_str(), bundle.as_bytes())?;
+    }
+    Ok(())
+}
+
+/// The good bundle without its last two bytes, and every shorter front of it, the empty text among them.
+#[test]
+fn a_text_that_is_cut_off_is_refused(rt: HostRuntime) -> Result<(), Fail> {
+    let bundle = good(rt.alloc())?;
+    for len in 0..367 {
+        let front = bundle.as_bytes().get(..len).ok_or("a short text")?;
+        let call = checking(front, PROOF.as_bytes());
+        assert_eq!(rt; outcome(rt.alloc(), call)?.as_str(), NO_BUNDLE, "{len}");
+    }
+    Ok(())
+}
+
+#[test]
+fn bytes_that_are_no_text_are_refused(rt: HostRuntime) -> Result<(), Fail> {
+    let mut bytes = Vec::from_slice(rt.alloc(), good(rt.alloc())?.as_bytes())?;
+    bytes.extend_from_slice(b"// \xff")?;
+    refuses_bundle(&rt, rt.alloc(), "bundle", bytes.as_slice())?;
+    let mut bytes = Vec::from_slice(rt.alloc(), PROOF.as_bytes())?;
+    bytes.push(255)?;
+    let bundle = good(rt.alloc())?;
+    let call = checking(bundle.as_bytes(), bytes.as_slice());
+    ends_after_both(&rt, rt.alloc(), "proof", call, NO_PROOF)
+}
+
+/// The core between so many fronts and backs.
+fn nested(alloc: Global, front: &str, core: &str, back: &str, count: u32) -> Result<String, Fail> {
+    let mut text = String::new(alloc);
+    for _ in 0..count {
+        text.push_str(front)?;
+    }
+    text.push_str(core)?;
+    for _ in 0..count {
+        text.push_str(back)?;
+    }
+    Ok(text)
+}
+
+/// The first expression goes 61 deep beneath its own node, the command and the split.
+#[test]
+fn an_expression_in_a_split_is_at_most_62_deep(rt: HostRuntime) -> Result<(), Fail> {
+    let alloc = rt.alloc();
+    for (depth, expected) in [(62, YES), (63, NO_BUNDLE), (65, NO_BUNDLE)] {
+        let sum = nested(alloc, "( ", "( x + 2 )", " + 0 )", depth - 2)?;
+        let bundle = good_but(alloc, "( x + 2 )", sum.as_str())?;
+        let call = checking(bundle.as_bytes(), PROOF.as_bytes());
+        assert_eq!(rt; outcome(alloc, call)?.as_str(), expected, "{depth}");
+    }
+    Ok(())
+}
+
+/// The good bundle with so many more globals on the left.
+fn with_globals(alloc: Global, count: u32) -> Result<String, Fail> {
+    let mut globals = String::from_str(alloc, "U {")?;
+    for number in 0..count {
+        globals.push_str(format!(in alloc; " global g{number} : int ;")?.as_str())?;
+    }
+    good_but(alloc, "U {", globals.as_str())
+}
+
+#[test]
+fn more_than_16384_globals_are_refused(rt: HostRuntime) -> Result<(), Fail> {
+    let bundle = with_globals(rt.alloc(), 16_384)?;
+    refuses_bundle(&rt, rt.alloc(), "16,385 globals", bundle.as_bytes())
+}
+
+/// What follows the first member is the repetition that has a limit.
+#[test]
+fn a_list_has_at_most_16385_members(rt: HostRuntime) -> Result<(), Fail> {
+    let alloc = rt.alloc();
+    for (count, expected) in [(16_384, YES), (16_385, NO_BUNDLE)] {
+        let more = nested(alloc, ", x ", "", "", count)?;
+        let writes = format!(in alloc; "writes {{ x {more}}}")?;
+        let bundle = good_but(alloc, "writes { x }", writes.as_str())?;
+        let call = checking(bundle.as_bytes(), PROOF.as_bytes());
+        assert_eq!(rt; outcome(alloc, call)?.as_str(), expected, "{count}");
+    }
+    Ok(())
+}
+
+/// The good bundle and so many spaces.
+fn with_spaces(alloc: Global, count: u32) -> Result<Vec<u8>, Fail> {
+    let mut bytes = Vec::from_slice(alloc, good(alloc)?.as_bytes())?;
+    for _ in 0..count {
+        bytes.push(b' ')?;
+    }
+    Ok(bytes)
+}
+
+#[test]
+fn a_bundle_has_at_most_4194304_bytes(rt: HostRuntime) -> Result<(), Fail> {
+    let bundle = with_spaces(rt.alloc(), 4_193_936)?;
+    assert_eq!(rt; bundle.len(), 4_194_304);
+    let call = checking(bundle.as_slice(), PROOF.as_bytes());
+    assert_eq!(rt; outcome(rt.alloc(), call)?.as_str(), YES);
+    let bundle = with_spaces(rt.alloc(), 4_193_937)?;
+    refuses_bundle(&rt, rt.alloc(), "4,194,305 bytes", bundle.as_slice())
+}
+
+/// Pieces of the good bundle, and texts in whose place it is as true.
+const UNUSUAL: [(&str, &str); 16] = [
+    ("; }\n", "; }"),
+    ("; }\n", "; } // the end"),
+    ("; }\n", "; }//"),
+    ("; }\n", "; } // \u{ff} %\n\n"),
+    (" ", "\t"),
+    (" ", "\r"),
+    (" ", "\r\n"),
+    (" ", "// 01 % \"\n"),
+    ("( x + 1 )", "(x+1)"),
+    ("x", "größe"),
+    ("x", "_"),
+    ("x", "中2"),
+    ("writes { x }", "writes { x , x }"),
+    ("global x", "global y : int ; global x"),
+    (
+        "ensures ( x =:= x )",
+        "ensures ( ( x + result ) =:= ( x - result ) )",
+    ),
+    ("( x + 2 )", "( ( 7 + x ) - ( 6 - 1 ) )"),
+];
+
+#[test]
+fn unusual_bundles_are_judged(rt: HostRuntime) -> Result<(), Fail> {
+    for (piece, new) in UNUSUAL {
+        let bundle = good_but(rt.alloc(), piece, new)?;
+        let call = checking(bundle.as_bytes(), PROOF.as_bytes());
+        assert_eq!(rt; outcome(rt.alloc(), call)?.as_str(), YES, "{bundle}");
+    }
+    Ok(())
+}
+
+#[test]
+fn the_lines_have_the_names_of_the_items(rt: HostRuntime) -> Result<(), Fail> {
+    let alloc = rt.alloc();
+    for (piece, new) in [("U", "Ü"), ("V", "U2"), ("J", "j_1")] {
+        let bundle = good_but(alloc, piece, new)?;
+        let expected = replaced(alloc, YES, piece, new)?;
+        let call = checking(bundle.as_bytes(), PROOF.as_bytes());
+        assert_eq!(rt; outcome(alloc, call)?.as_str(), expected.as_str(), "{new}");
+    }
+    Ok(())
+}
+
+const NO_PROOF_FILES: [&str; 33] = [
+    "",
+    " \n\t",
+    "{\"whyrel\":1,\"proofs\":[[]]",
+    "{\"whyrel\":1,\"proofs\":[[]]}}",
+    "[1,[[]]]",
+    "{\"whyrel\":2,\"proofs\":[[]]}",
+    "{\"whyrel\":1.0,\"proofs\":[[]]}",
+    "{\"whyrel\":\"1\",\"proofs\":[[]]}",
+    "{\"version\":1,\"proofs\":[[]]}",
+    "{\"whyrel\":1,\"proof\":[[]]}",
+    "{\"whyrel\":1}",
+    "{\"proofs\":[[]]}",
+    "{\"whyrel\":1,\"proofs\":[[]],\"note\":0}",
+    "{\"whyrel\":1,\"proofs\":[[]],\"whyrel\":2}",
+    "{\"whyrel\":1,\"proofs\":[]}",
+    "{\"whyrel\":1,\"proofs\":[[],[]]}",
+    "{\"whyrel\":1,\"proofs\":[{}]}",
+    "{\"whyrel\":1,\"proofs\":[[\"neint\",5]]}",
+    "{\"whyrel\":1,\"proofs\":[[[\"notint\",5]]]}",
+    "{\"whyrel\":1,\"proofs\":[[[\"neint\"]]]}",
+    "{\"whyrel\":1,\"proofs\":[[[\"neint\",5,6]]]}",
+    "{\"whyrel\":1,\"proofs\":[[[\"neint\",5.0]]]}",
+    "{\"whyrel\":1,\"proofs\":[[[\"neint\",-0]]]}",
+    "{\"whyrel\":1,\"proofs\":[[[\"neint\",\"5\"]]]}",
+    "{\"whyrel\":1,\"proofs\":[[[\"neint\",4294967296]]]}",
+    "{\"whyrel\":1,\"proofs\":[[[\"farkas\",[[6,1]]]]]}",
+    "{\"whyrel\":1,\"proofs\":[[[\"farkas\",[[6,\"01\"]]]]]}",
+    "{\"whyrel\":1,\"proofs\":[[[\"farkas\",[[6,\"-0\"]]]]]}",
+    "{\"whyrel\":1,\"proofs\":[[[\"farkas\",[[6,\"+5\"]]]]]}",
+    "{\"whyrel\":1,\"proofs\":[[[\"farkas\",[[6,\"\"]]]]]}",
+    "{\"whyrel\":1,\"proofs\":[[[\"farkas\",[[6,\"5x\"]]]]]}",
+    "{\"whyrel\":1,\"proofs\":[[[\"farkas\",[[6]]]]]}",
+    "{\"whyrel\":1,\"proofs\":[[[\"farkas\",[[6,\"170141183460469231731687303715884105728\"]]]]]}",
+];
+
+#[test]
+fn what_is_no_proof_file_is_refused(rt: HostRuntime) -> Result<(), Fail> {
+    let bundle = good(rt.alloc())?;
+    for proof in NO_PROOF_FILES {
+        let call = checking(bundle.as_bytes(), proof.as_bytes());
+        ends_after_both(&rt, rt.alloc(), proof, call, NO_PROOF)?;
+    }
+    let arrays = nested(rt.alloc(), "[", "", "]", 200)?;
+    let proof = format!(in rt.alloc(); "{{\"whyrel\":1,\"proofs\":{arrays}}}")?;
+    let call = checking(bundle.as_bytes(), proof.as_bytes());
+    ends_after_both(&rt, rt.alloc(), "nested arrays", call, NO_PROOF)
+}
+
+/// Of a repeated key the last value counts. The order of the keys doesn't.
+#[test]
+fn unusual_proof_files_are_read(rt: HostRuntime) -> Result<(), Fail> {
+    let bundle = good(rt.alloc())?;
+    for proof in [
+        "{\"whyrel\":1,\"proofs\":[[]]}",
+        "{\"whyrel\":2,\"proofs\":[[]],\"whyrel\":1}",
+        "{\"proofs\":0,\"whyrel\":1,\"proofs\":[[]]}",
+        " {\n\"proofs\" : [ [ ] ] ,\t\"whyrel\" : 1 }\r\n",
+    ] {
+        let call = checking(bundle.as_bytes(), proof.as_bytes());
+        let open = "1|refused OpenNodes 1 obligation 0 in judge J at 229\n";
+        ends_after_both(&rt, rt.alloc(), proof, call, open)?;
+    }
+    Ok(())
+}
