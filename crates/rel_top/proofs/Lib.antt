@@ -11,7 +11,6 @@ pub mod FormsScope
 pub mod FormsShape
 pub mod FormsUnit
 pub mod Obligations
-pub mod Yes
 pub mod Verdicts
 pub mod Endings
 pub mod FewSteps
