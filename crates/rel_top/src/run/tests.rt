@@ -256,30 +256,33 @@ fn each_fault_ends_the_call(rt: HostRuntime) -> Result<(), Fail> {
     Ok(())
 }
 
-const USAGE_WORDS: [&[&str]; 9] = [
-    &[],
-    &["check"],
-    &["check", "sum.rel"],
-    &["check", "sum.rel", "sum.json", "sum.json"],
-    &["show", "sum.rel"],
-    &["Check", "sum.rel", "sum.json"],
-    &["", "sum.rel", "sum.json"],
-    &["prove", "sum.rel", "sum.json"],
-    &["sum.rel", "sum.json", "check"],
+const USAGE_WORDS: [(&str, &[&str]); 9] = [
+    ("no words", &[]),
+    ("one word", &["check"]),
+    ("two words", &["check", "sum.rel"]),
+    ("four words", &["check", "sum.rel", "sum.json", "sum.json"]),
+    ("another command", &["show", "sum.rel"]),
+    (
+        "another command of three words",
+        &["prove", "sum.rel", "sum.json"],
+    ),
+    ("another letter", &["Check", "sum.rel", "sum.json"]),
+    ("an empty word", &["", "sum.rel", "sum.json"]),
+    ("another order", &["sum.rel", "sum.json", "check"]),
 ];
 
 #[test]
 fn other_words_give_the_usage(rt: HostRuntime) -> Result<(), Fail> {
     let bundle = good(rt.alloc())?;
     let call = checking(bundle.as_bytes(), PROOF.as_bytes());
-    for words in USAGE_WORDS {
+    for (case, words) in USAGE_WORDS {
         let other = Call { words, ..call };
-        puts_one_line(&rt, rt.alloc(), "words", other, USAGE)?;
+        puts_one_line(&rt, rt.alloc(), case, other, USAGE)?;
         let faulty = Call {
             file_fails: &[0, 1],
             ..other
         };
-        puts_one_line(&rt, rt.alloc(), "words", faulty, USAGE)?;
+        puts_one_line(&rt, rt.alloc(), case, faulty, USAGE)?;
     }
     Ok(())
 }
