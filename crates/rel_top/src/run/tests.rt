@@ -569,7 +569,7 @@ fn other_items_are_refused(rt: HostRuntime) -> Result<(), Fail> {
     Ok(())
 }
 
-/// The good bundle without its last two bytes, and every shorter front of it, the empty text among them.
+/// Each front of the good bundle that lacks the last brace, from the empty text on.
 #[test]
 fn a_text_that_is_cut_off_is_refused(rt: HostRuntime) -> Result<(), Fail> {
     let bundle = good(rt.alloc())?;
@@ -606,7 +606,7 @@ fn nested(alloc: Global, front: &str, core: &str, back: &str, count: u32) -> Res
     Ok(text)
 }
 
-/// The first expression goes 61 deep beneath its own node, the command and the split.
+/// The split has depth 1 and its command depth 2, so the whole expression has depth 3.
 #[test]
 fn an_expression_in_a_split_is_at_most_62_deep(rt: HostRuntime) -> Result<(), Fail> {
     let alloc = rt.alloc();
