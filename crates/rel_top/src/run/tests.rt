@@ -256,30 +256,33 @@ fn each_fault_ends_the_call(rt: HostRuntime) -> Result<(), Fail> {
     Ok(())
 }
 
-const USAGE_WORDS: [&[&str]; 9] = [
-    &[],
-    &["check"],
-    &["check", "sum.rel"],
-    &["check", "sum.rel", "sum.json", "sum.json"],
-    &["show", "sum.rel"],
-    &["Check", "sum.rel", "sum.json"],
-    &["", "sum.rel", "sum.json"],
-    &["prove", "sum.rel", "sum.json"],
-    &["sum.rel", "sum.json", "check"],
+const USAGE_WORDS: [(&str, &[&str]); 9] = [
+    ("no words", &[]),
+    ("one word", &["check"]),
+    ("two words", &["check", "sum.rel"]),
+    ("four words", &["check", "sum.rel", "sum.json", "sum.json"]),
+    ("another command", &["show", "sum.rel"]),
+    (
+        "another command of three words",
+        &["prove", "sum.rel", "sum.json"],
+    ),
+    ("another letter", &["Check", "sum.rel", "sum.json"]),
+    ("an empty word", &["", "sum.rel", "sum.json"]),
+    ("another order", &["sum.rel", "sum.json", "check"]),
 ];
 
 #[test]
 fn other_words_give_the_usage(rt: HostRuntime) -> Result<(), Fail> {
     let bundle = good(rt.alloc())?;
     let call = checking(bundle.as_bytes(), PROOF.as_bytes());
-    for words in USAGE_WORDS {
+    for (case, words) in USAGE_WORDS {
         let other = Call { words, ..call };
-        puts_one_line(&rt, rt.alloc(), "words", other, USAGE)?;
+        puts_one_line(&rt, rt.alloc(), case, other, USAGE)?;
         let faulty = Call {
             file_fails: &[0, 1],
             ..other
         };
-        puts_one_line(&rt, rt.alloc(), "words", faulty, USAGE)?;
+        puts_one_line(&rt, rt.alloc(), case, faulty, USAGE)?;
     }
     Ok(())
 }
@@ -566,7 +569,7 @@ fn other_items_are_refused(rt: HostRuntime) -> Result<(), Fail> {
     Ok(())
 }
 
-/// The good bundle without its last two bytes, and every shorter front of it, the empty text among them.
+/// Each front of the good bundle that lacks the last brace, from the empty text on.
 #[test]
 fn a_text_that_is_cut_off_is_refused(rt: HostRuntime) -> Result<(), Fail> {
     let bundle = good(rt.alloc())?;
@@ -603,7 +606,7 @@ fn nested(alloc: Global, front: &str, core: &str, back: &str, count: u32) -> Res
     Ok(text)
 }
 
-/// The first expression goes 61 deep beneath its own node, the command and the split.
+/// The split has depth 1 and its command depth 2, so the whole expression has depth 3.
 #[test]
 fn an_expression_in_a_split_is_at_most_62_deep(rt: HostRuntime) -> Result<(), Fail> {
     let alloc = rt.alloc();
