@@ -1,23 +1,21 @@
 -- From what `check` answers to how `run` ends.
-use Rattle.std.proofs.Common.{◌≡◌, ◌≢◌, ◌⊎◌, inl, inr, ℕ, ◌+◌, ◌<◌, ◌≤◌, List, [], ◌∷◌, ◌++◌, length, take, drop, get_or, Option, Some, None, Result, Ok, Err, OnErr, refl, sym, ap, subst, ◌∙◌, append_assoc, append-nil, take-append-drop, length-append, drop-cons, take_all, arith}
+use Rattle.std.proofs.Common.{◌≡◌, ◌≢◌, inl, inr, ℕ, ◌+◌, ◌<◌, ◌≤◌, List, [], ◌∷◌, ◌++◌, length, take, drop, get_or, Option, Some, None, Result, Ok, Err, OnErr, refl, sym, ap, subst, ◌∙◌, append_assoc, append-nil, take-append-drop, length-append, take_all, arith}
 use Rattle.std.proofs.Math.Seq.{take-append-add}
 use Rattle.std.proofs.lemmas.List.{take_more, take-append-le}
 use Rattle.std.proofs.lemmas.List.Folds.{concat-append}
 use Rattle.std.specs.List.{concat}
 use Rattle.rel_io.specs.Told.{Told, untold, absent, bytes, IsToldAs, Rose, Appends, AppendsFront}
-use Rattle.rel_lang.specs.Syntax.{Bundle}
-use Rattle.rel_lang.specs.Text.{StandsFor}
 use Rattle.rel_lang.specs.TrueBundle.{IsTrueBundle, StandsForTrueBundle}
 use Rattle.rel_logic.specs.Truth.{IsValid}
 use Rattle.rel_top.specs.declared.check.Answer.{Answer}
 use Rattle.rel_top.specs.declared.status.Status.{Status}
-use Rattle.rel_top.specs.declared.status.Status.TheVariants.{Yes, Refused, Usage, FileFault, OutputFault, Memory, Unproved}
+use Rattle.rel_top.specs.declared.status.Status.TheVariants.{Yes, FileFault, OutputFault, Memory}
 use Rattle.rel_top.specs.Ending.{Words, check_words, Reply, usage, unread, answer, HasReply, status_of, lines_of, Output, output, IsPrinted, IsCutOff, IsSilent, EndsWith, Ends, IsDecided}
 use Rattle.rel_top.specs.Form.{Parts, HasForm}
 use Rattle.rel_top.specs.Headline.{WhereTold, IsYes}
 use Rattle.rel_top.specs.Judged.{IsOutcomeAnswer, IsProofAnswer, IsPartsAnswer, IsBuiltOnce, IsTextAnswer, IsCheckAnswer, IsReply, IsWordsAnswer, IsPrintedAs, answer_of}
 use Rattle.rel_top.specs.Obligation.{obligation_of}
-use Rattle.rel_top.specs.Verdict.{IsBuilt, IsNotBuilt, Outcome, no_proof, bad_step, open_nodes, accepted, HasOutcome, Verdict, no_bundle, judged, outcome_status, verdict_status, MayHold, HasVerdict}
+use Rattle.rel_top.specs.Verdict.{IsBuilt, IsNotBuilt, Outcome, no_proof, bad_step, open_nodes, accepted, HasOutcome, Verdict, no_bundle, judged, outcome_status, HasVerdict}
 use Rattle.rel_top.proofs.TrueBundles.{true_bundle}
 use Rattle.rel_top.proofs.Verdicts.{same_parts}
 

@@ -1,6 +1,6 @@
 -- From what the parts of `check` find to what they answer.
-use Rattle.std.proofs.Common.{◌≡◌, ◌↔◌, ◌⊎◌, inl, inr, ℕ, suc, ◌+◌, ◌^◌, ◌<◌, ◌≤◌, List, [], ◌∷◌, length, map, replicate, Option, Some, None, Result, Err, option_and_then, refl, sym, ap, subst, ◌∙◌, cond, false, arith}
-use Rattle.std.specs.Prelude.{nat_le, ◌&&◌}
+use Rattle.std.proofs.Common.{◌≡◌, ◌↔◌, inl, inr, ℕ, suc, ◌+◌, ◌^◌, ◌<◌, ◌≤◌, List, [], ◌∷◌, length, replicate, Option, Some, None, Result, Err, option_and_then, refl, sym, ap, subst, ◌∙◌, cond, arith}
+use Rattle.std.specs.Prelude.{nat_le}
 use Rattle.std.specs.Str.{is_utf8}
 use Rattle.std.proofs.lemmas.Bool.{and_left, lt-leb}
 use Rattle.std.proofs.lemmas.List.{length-map, length-replicate}
@@ -28,12 +28,12 @@ use Rattle.rel_top.specs.declared.check.Answer.{Answer}
 use Rattle.rel_top.specs.declared.form.Parts as P
 use Rattle.rel_top.specs.Ending.{ReadFailed, unread, answer}
 use Rattle.rel_top.specs.Form.{Parts, IsPlainUnit, HasForm}
-use Rattle.rel_top.specs.Judged.{HasFew, IsObligation, IsOutcomeAnswer, IsStepsAnswer, IsProofAnswer, IsPartsAnswer, IsBundleAnswer, IsBuiltOnce, IsTextAnswer, IsCheckAnswer, answer_of}
+use Rattle.rel_top.specs.Judged.{HasFew, IsObligation, IsStepsAnswer, IsProofAnswer, IsPartsAnswer, IsBundleAnswer, IsBuiltOnce, IsTextAnswer, IsCheckAnswer, answer_of}
 use Rattle.rel_top.specs.Obligation.{obligation_of}
 use Rattle.rel_top.specs.Parts.{parts_view}
 use Rattle.rel_top.specs.ProofFile.{proof_of, json_of, steps_of, derivation_of}
 use Rattle.rel_top.proofs.FewSteps.{few_steps}
-use Rattle.rel_top.specs.Verdict.{IsBuilt, IsNotBuilt, Outcome, no_proof, bad_step, open_nodes, accepted, Says, HasOutcome, no_bundle, judged, MayHold}
+use Rattle.rel_top.specs.Verdict.{IsBuilt, Outcome, no_proof, bad_step, open_nodes, accepted, Says, HasOutcome, no_bundle, judged, MayHold}
 
 -- ---- the limits keep the numbers of variables within 32 bits
 

@@ -15,25 +15,28 @@ Words = List (List ℕ)
 abbrev pub check_words : List ℕ → List ℕ → Words
 check_words bundle proof = codes "check" ∷ bundle ∷ proof ∷ []
 
--- the words are no command, a file couldn't be read, or the two files were judged
+-- what a call comes to: the words are no command, a file couldn't be read, or there is a verdict
 pub data Reply : Type 0 where
   usage : Reply
   unread : List ℕ → Reply
   answer : Verdict → Reply
 
--- the counts of faults, in all and of reads at this name, before and after the call: both rose
+-- the counts of faults before and after a call, in all and of reads at each name, rose in all and at this name
 abbrev pub ReadFailed : ℕ → ℕ → (List ℕ → ℕ) → (List ℕ → ℕ) → List ℕ → Type 0
-ReadFailed all new_all reads new_reads name = Rose all new_all × Rose (reads name) (new_reads name)
+ReadFailed faults new_faults reads new_reads name = Rose faults new_faults × Rose (reads name) (new_reads name)
 
--- where a read failed: the bundle's, or, of a bundle that can be judged, the proof's
+-- a read of the file of this name failed: the bundle's, or the proof's, which isn't read before the bundle can be judged
 abbrev pub IsUnread : (List ℕ → Told) → (List ℕ → Type 0) → List ℕ → List ℕ → List ℕ → Type 0
-IsUnread told Failed bundle proof name = Failed name × ((name ≡ bundle) ⊎ ((name ≡ proof) × ((k : Parts) × MayHold (told bundle) (λ text. IsBuilt text k))))
+IsUnread told Failed bundle proof name =
+    Failed name × ((name ≡ bundle) ⊎ ((name ≡ proof) × ((k : Parts) × MayHold (told bundle) (λ text. IsBuilt text k))))
 
--- The reply comes where it may: of files that tell this, of which reads at these names failed, to these words.
+-- The reply to these words comes only so, of files that tell this and of which the reads at these names failed.
 abbrev pub HasReply : (List ℕ → Told) → (List ℕ → Type 0) → Words → Reply → Type 0
 HasReply told Failed words usage = (bundle proof : List ℕ) → words ≢ check_words bundle proof
-HasReply told Failed words (unread name) = (bundle : List ℕ) × (proof : List ℕ) × (words ≡ check_words bundle proof) × IsUnread told Failed bundle proof name
-HasReply told Failed words (answer v) = (bundle : List ℕ) × (proof : List ℕ) × (words ≡ check_words bundle proof) × HasVerdict (told bundle) (told proof) v
+HasReply told Failed words (unread name) =
+    (bundle : List ℕ) × (proof : List ℕ) × (words ≡ check_words bundle proof) × IsUnread told Failed bundle proof name
+HasReply told Failed words (answer v) =
+    (bundle : List ℕ) × (proof : List ℕ) × (words ≡ check_words bundle proof) × HasVerdict (told bundle) (told proof) v
 
 abbrev pub status_of : Reply → Status
 status_of usage = Usage

@@ -52,7 +52,8 @@ pub fn check<F: Files>(
     files: &mut F,
 ) -> Result<Answer, Memory>
     ensures answer { IfOk result (IsCheckAnswer (F.told files.old)
-        (ReadFailed (F.faults files.old) (F.faults files.new) (F.read_faults files.old) (F.read_faults files.new))
+        (ReadFailed (F.faults files.old) (F.faults files.new)
+        (F.read_faults files.old) (F.read_faults files.new))
         bundle.now proof.now) }
     ensures contents_stay { F.told files.new ≡ F.told files.old }
     ensures quiet { IfOk result (λ a. a.status ≢ Status.FileFault → F.faults files.new ≡ F.faults files.old) }
@@ -76,7 +77,8 @@ fn content_of<F: Files>(
     ensures within { IfOk result (λ content. length content.items ≤ limit) }
     ensures too_long { IfTooLong result (IsLonger (F.told files.old name.now) limit) }
     ensures failed { IfFailed result
-        (ReadFailed (F.faults files.old) (F.faults files.new) (F.read_faults files.old) (F.read_faults files.new) name.now) }
+        (ReadFailed (F.faults files.old) (F.faults files.new)
+        (F.read_faults files.old) (F.read_faults files.new) name.now) }
     ensures contents_stay { F.told files.new ≡ F.told files.old }
     ensures faults_stay { UnlessFailed result (F.faults files.new ≡ F.faults files.old) }
     ensures read_faults_stay { UnlessFailed result (F.read_faults files.new ≡ F.read_faults files.old) }
@@ -111,7 +113,8 @@ fn check_text<F: Files>(
 ) -> Result<Answer, Memory>
     requires { length text.now ≤ 2 ^ 22 }
     ensures answer { IfOk result (IsTextAnswer text.now (F.told files.old)
-        (ReadFailed (F.faults files.old) (F.faults files.new) (F.read_faults files.old) (F.read_faults files.new))
+        (ReadFailed (F.faults files.old) (F.faults files.new)
+        (F.read_faults files.old) (F.read_faults files.new))
         proof.now) }
     ensures contents_stay { F.told files.new ≡ F.told files.old }
     ensures quiet { IfOk result (λ a. a.status ≢ Status.FileFault → F.faults files.new ≡ F.faults files.old) }
@@ -131,7 +134,8 @@ fn check_bundle<F: Files>(
 ) -> Result<Answer, Memory>
     requires { Fits (bundle_of bundle.now) }
     ensures answer { IfOk result (IsBundleAnswer (bundle_of bundle.now) (F.told files.old)
-        (ReadFailed (F.faults files.old) (F.faults files.new) (F.read_faults files.old) (F.read_faults files.new))
+        (ReadFailed (F.faults files.old) (F.faults files.new)
+        (F.read_faults files.old) (F.read_faults files.new))
         proof.now) }
     ensures contents_stay { F.told files.new ≡ F.told files.old }
     ensures quiet { IfOk result (λ a. a.status ≢ Status.FileFault → F.faults files.new ≡ F.faults files.old) }
@@ -166,7 +170,8 @@ fn check_parts<F: Files>(
 ) -> Result<Answer, Memory>
     requires { HasFew parts.now }
     ensures answer { IfOk result (IsPartsAnswer (parts_view parts.now) (F.told files.old)
-        (ReadFailed (F.faults files.old) (F.faults files.new) (F.read_faults files.old) (F.read_faults files.new))
+        (ReadFailed (F.faults files.old) (F.faults files.new)
+        (F.read_faults files.old) (F.read_faults files.new))
         proof.now) }
     ensures contents_stay { F.told files.new ≡ F.told files.old }
     ensures quiet { IfOk result (λ a. a.status ≢ Status.FileFault → F.faults files.new ≡ F.faults files.old) }
@@ -184,7 +189,8 @@ fn check_sequent<F: Files>(
 ) -> Result<Answer, Memory>
     requires { IsObligation sequent.now (parts_view parts.now) }
     ensures answer { IfOk result (IsPartsAnswer (parts_view parts.now) (F.told files.old)
-        (ReadFailed (F.faults files.old) (F.faults files.new) (F.read_faults files.old) (F.read_faults files.new))
+        (ReadFailed (F.faults files.old) (F.faults files.new)
+        (F.read_faults files.old) (F.read_faults files.new))
         proof.now) }
     ensures contents_stay { F.told files.new ≡ F.told files.old }
     ensures quiet { IfOk result (λ a. a.status ≢ Status.FileFault → F.faults files.new ≡ F.faults files.old) }

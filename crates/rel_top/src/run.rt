@@ -21,7 +21,8 @@ pub fn run<F: Files, S: Sink>(alloc: Global, words: &[String], files: &mut F, ou
     // Each answer comes only for its cause, and prints its lines.
     ensures ends { Ends
         (HasReply (F.told files.old)
-        (ReadFailed (F.faults files.old) (F.faults files.new) (F.read_faults files.old) (F.read_faults files.new))
+        (ReadFailed (F.faults files.old) (F.faults files.new)
+        (F.read_faults files.old) (F.read_faults files.new))
         (map string_bytes words.now))
         (output (S.written out.old) (S.written out.new) (S.faults out.old) (S.faults out.new)) result }
     // Where the files are told and no read fails, the one verdict on them is the answer.
@@ -40,7 +41,8 @@ pub fn run<F: Files, S: Sink>(alloc: Global, words: &[String], files: &mut F, ou
 
 fn answer_to<F: Files>(alloc: Global, words: &[String], files: &mut F) -> Result<Answer, Memory>
     ensures answer { IfOk result (IsWordsAnswer (F.told files.old)
-        (ReadFailed (F.faults files.old) (F.faults files.new) (F.read_faults files.old) (F.read_faults files.new))
+        (ReadFailed (F.faults files.old) (F.faults files.new)
+        (F.read_faults files.old) (F.read_faults files.new))
         (map string_bytes words.now)) }
     ensures contents_stay { F.told files.new ≡ F.told files.old }
     ensures quiet { IfOk result (λ a. a.status ≢ Status.FileFault → F.faults files.new ≡ F.faults files.old) }
@@ -60,7 +62,8 @@ fn usage(alloc: Global) -> Result<Answer, Memory>
 /// The names of the bundle and of the proof file, where the words are those of `check`.
 fn named_files(words: &[String]) -> Option<(&str, &str)>
     ensures some { IfSome result (λ p. map string_bytes words.now ≡ check_words p.0.now p.1.now) }
-    ensures none { IfNone result ((bundle proof : List ℕ) → map string_bytes words.now ≢ check_words bundle proof) }
+    ensures none { IfNone result ((bundle proof : List ℕ) →
+        map string_bytes words.now ≢ check_words bundle proof) }
 {
     if words.len() == 3 && is_text(&words[0], "check") {
         Some((words[1].as_str(), words[2].as_str()))
@@ -76,7 +79,8 @@ fn is_text(word: &String, text: &str) -> bool
 }
 
 fn print_answer<S: Sink>(out: &mut S, answer: &Answer) -> Status
-    ensures { IsPrintedAs (output (S.written out.old) (S.written out.new) (S.faults out.old) (S.faults out.new))
+    ensures { IsPrintedAs
+        (output (S.written out.old) (S.written out.new) (S.faults out.old) (S.faults out.new))
         answer.now result }
 {
     match put_lines(out, &answer.lines) {
@@ -87,10 +91,12 @@ fn print_answer<S: Sink>(out: &mut S, answer: &Answer) -> Status
 
 /// Puts the lines one by one, and no further one after a fault.
 fn put_lines<S: Sink>(out: &mut S, lines: &Lines<Name>) -> Result<(), SinkFault>
-    ensures printed { OnOk result
-        (IsPrinted (output (S.written out.old) (S.written out.new) (S.faults out.old) (S.faults out.new)) lines.now) }
-    ensures cut_off { OnErr result
-        (IsCutOff (output (S.written out.old) (S.written out.new) (S.faults out.old) (S.faults out.new)) lines.now) }
+    ensures printed { OnOk result (IsPrinted
+        (output (S.written out.old) (S.written out.new) (S.faults out.old) (S.faults out.new))
+        lines.now) }
+    ensures cut_off { OnErr result (IsCutOff
+        (output (S.written out.old) (S.written out.new) (S.faults out.old) (S.faults out.new))
+        lines.now) }
 {
     for line in &lines.items {
         out.put(line.as_str().as_bytes())?;

@@ -150,7 +150,8 @@ fn a_true_bundle_and_its_proof_give_yes(rt: HostRuntime) -> Result<(), Fail> {
     Ok(())
 }
 
-/// The call prints one line and ends so, whichever puts after the first fail. A first one that fails prints nothing.
+/// The call prints one line and ends so, whichever puts after the first fail. A first one that fails
+/// prints nothing.
 fn puts_one_line(
     rt: &impl Abort,
     alloc: Global,
@@ -712,7 +713,7 @@ fn the_lines_have_the_names_of_the_items(rt: HostRuntime) -> Result<(), Fail> {
     Ok(())
 }
 
-const NO_PROOF_FILES: [&str; 33] = [
+const NO_PROOF_FILES: [&str; 34] = [
     "",
     " \n\t",
     "{\"whyrel\":1,\"proofs\":[[]]",
@@ -742,6 +743,7 @@ const NO_PROOF_FILES: [&str; 33] = [
     "{\"whyrel\":1,\"proofs\":[[[\"farkas\",[[6,\"01\"]]]]]}",
     "{\"whyrel\":1,\"proofs\":[[[\"farkas\",[[6,\"-0\"]]]]]}",
     "{\"whyrel\":1,\"proofs\":[[[\"farkas\",[[6,\"+5\"]]]]]}",
+    "{\"whyrel\":1,\"proofs\":[[[\"farkas\",[[6,\"-\"]]]]]}",
     "{\"whyrel\":1,\"proofs\":[[[\"farkas\",[[6,\"\"]]]]]}",
     "{\"whyrel\":1,\"proofs\":[[[\"farkas\",[[6,\"5x\"]]]]]}",
     "{\"whyrel\":1,\"proofs\":[[[\"farkas\",[[6]]]]]}",

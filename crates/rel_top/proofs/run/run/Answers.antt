@@ -1,5 +1,4 @@
 use Rattle.std.proofs.Common.{refl}
-use Rattle.rel_top.specs.Ending.{IsSilent}
 use Rattle.rel_top.proofs.Endings.{ends_well, decided_well, yes_well, not_unread, no_memory, undecided}
 use Rattle.rel_top.proofs.run.run.Goals as goal
 
