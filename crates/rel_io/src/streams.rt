@@ -1,7 +1,9 @@
 //! Whole contents through readers and writers that take and give a part at a time.
-ghost use Rattle.std.specs.Prelude.{◌≡◌, ◌+◌, ◌<◌, ◌≤◌, ◌≢◌, ◌++◌};
+ghost use Rattle.std.specs.Prelude.{◌≡◌, ◌↔◌, ◌+◌, ◌<◌, ◌≤◌, ◌≢◌, ◌++◌};
 ghost use Rattle.std.specs.Prelude.{ℕ, List, length, take, IfOk, IfSome, OnOk, OnErr, IsTrue};
 ghost use Rattle.std.specs.Io.KnownBytes.{Appends, Consumes, IsAtEnd, Keeps};
+ghost use Rattle.std.specs.IoError.{error_kind};
+ghost use Rattle.std.specs.declared.io.ErrorKind.TheVariants.{OutOfMemory};
 ghost use Rattle.rel_io.specs.Answers.{IfTooLong};
 
 use crate::files::FileFault;
@@ -11,7 +13,8 @@ use std::io::{Error, ErrorKind, Read, Write};
 
 /// Want of memory, or else a failure.
 pub(crate) fn fault_of(error: &Error) -> FileFault
-    ensures { result ≢ FileFault.TooLong }
+    ensures memory { (result ≡ FileFault.Memory) ↔ (error_kind error.now ≡ OutOfMemory) }
+    ensures never_too_long { result ≢ FileFault.TooLong }
 {
     if error.kind() == ErrorKind::OutOfMemory {
         FileFault::Memory
