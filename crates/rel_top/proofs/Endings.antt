@@ -5,18 +5,18 @@ use Rattle.std.proofs.lemmas.List.{take_more, take-append-le}
 use Rattle.std.proofs.lemmas.List.Folds.{concat-append}
 use Rattle.std.specs.List.{concat}
 use Rattle.rel_io.specs.Told.{Told, untold, absent, bytes, IsToldAs, Rose, Appends, AppendsFront}
+use Rattle.rel_lang.specs.Syntax.{Bundle}
 use Rattle.rel_lang.specs.TrueBundle.{IsTrueBundle, StandsForTrueBundle}
 use Rattle.rel_logic.specs.Truth.{IsValid}
 use Rattle.rel_top.specs.declared.check.Answer.{Answer}
 use Rattle.rel_top.specs.declared.status.Status.{Status}
 use Rattle.rel_top.specs.declared.status.Status.TheVariants.{Yes, FileFault, OutputFault, Memory}
 use Rattle.rel_top.specs.Ending.{Words, check_words, Reply, usage, unread, answer, HasReply, status_of, lines_of, Output, output, IsPrinted, IsCutOff, IsSilent, EndsWith, Ends, IsDecided}
-use Rattle.rel_top.specs.Form.{Parts, HasForm}
+use Rattle.rel_linking.specs.Form.{Parts, HasForm}
 use Rattle.rel_top.specs.Headline.{WhereTold, IsYes}
 use Rattle.rel_top.specs.Judged.{IsOutcomeAnswer, IsProofAnswer, IsPartsAnswer, IsBuiltOnce, IsTextAnswer, IsCheckAnswer, IsReply, IsWordsAnswer, IsPrintedAs, answer_of}
-use Rattle.rel_top.specs.Obligation.{obligation_of}
+use Rattle.rel_linking.specs.Obligation.{obligation_of}
 use Rattle.rel_top.specs.Verdict.{IsBuilt, IsNotBuilt, Outcome, no_proof, bad_step, open_nodes, accepted, HasOutcome, Verdict, no_bundle, judged, outcome_status, HasVerdict}
-use Rattle.rel_top.proofs.TrueBundles.{true_bundle}
 use Rattle.rel_top.proofs.Verdicts.{same_parts}
 
 -- ---- what is told of a file
@@ -42,10 +42,10 @@ is_accepted (bad_step n) e = absurd cc
 is_accepted (open_nodes n) e = absurd cc
 is_accepted accepted e = refl
 
-stands_for_true : (text : List ℕ) (k : Parts) → IsBuiltOnce text k → IsValid (obligation_of k) → StandsForTrueBundle text
-stands_for_true text k once valid =
+stands_for_true : (text : List ℕ) (k : Parts) → IsBuiltOnce text k → ((b : Bundle) → HasForm b k → IsTrueBundle b) → StandsForTrueBundle text
+stands_for_true text k once enough =
     let built = once.built in
-    let holds : IsTrueBundle built.bundle = true_bundle built.bundle k built.form valid in
+    let holds : IsTrueBundle built.bundle = enough built.bundle built.form in
     record { bundle = built.bundle; stands = built.stands; true = λ c other. subst IsTrueBundle (once.one c other) holds }
 
 module _ (told : List ℕ → Told) (Failed : List ℕ → Type 0) (words : Words) (a : Answer) (bundle proof : List ℕ) (e : words ≡ check_words bundle proof) where
@@ -94,7 +94,7 @@ module _ (told : List ℕ → Told) (Failed : List ℕ → Type 0) (words : Word
         proof = proof;
         checked = e;
         true = where_told (told bundle) StandsForTrueBundle text is_told
-            (stands_for_true text k once (h.valid (is_accepted h.outcome (sym (ap (λ b. b.status) h.is) ∙ y))));
+            (stands_for_true text k once (h.enough (is_accepted h.outcome (sym (ap (λ b. b.status) h.is) ∙ y))));
       };
     } where
       decides : Decides (answer (judged k h.outcome))

@@ -15,6 +15,7 @@ use Rattle.rel_lang.specs.Syntax.{Proc, UnitItem, unit, judge, Bundle}
 use Rattle.rel_lang.specs.Limits.{Fits, FitItems, FitsUnit, FitProcs, FitsProc}
 use Rattle.rel_lang.specs.Limits as limits
 use Rattle.rel_lang.specs.Text.{StandsFor}
+use Rattle.rel_lang.specs.TrueBundle.{IsTrueBundle}
 use Rattle.rel_lang.specs.View.{decl_of, block_of, bundle_of}
 use Rattle.rel_logic.specs.declared.sequent.Sequent.{Sequent}
 use Rattle.rel_logic.specs.Truth.{IsValid}
@@ -25,45 +26,19 @@ use Rattle.rel_derive.specs.declared.checker.Verdict.TheVariants.{Accepted, BadS
 use Rattle.rel_derive.specs.Rules.{IsAccepted}
 use Rattle.rel_derive.specs.Stack.{IsBadStep, LeavesOpen, IsVerdict}
 use Rattle.rel_top.specs.declared.check.Answer.{Answer}
-use Rattle.rel_top.specs.declared.form.Parts as P
 use Rattle.rel_top.specs.Ending.{ReadFailed, unread, answer}
-use Rattle.rel_top.specs.Form.{Parts, IsPlainUnit, HasForm}
-use Rattle.rel_top.specs.Judged.{HasFew, IsObligation, IsStepsAnswer, IsProofAnswer, IsPartsAnswer, IsBundleAnswer, IsBuiltOnce, IsTextAnswer, IsCheckAnswer, answer_of}
-use Rattle.rel_top.specs.Obligation.{obligation_of}
-use Rattle.rel_top.specs.Parts.{parts_view}
+use Rattle.rel_linking.specs.Form.{Parts, IsPlainUnit, HasForm}
+use Rattle.rel_top.specs.Judged.{IsObligation, IsStepsAnswer, IsProofAnswer, IsPartsAnswer, IsBundleAnswer, IsBuiltOnce, IsTextAnswer, IsCheckAnswer, answer_of}
+use Rattle.rel_linking.specs.Obligation.{obligation_of}
 use Rattle.rel_top.specs.ProofFile.{proof_of, json_of, steps_of, derivation_of}
 use Rattle.rel_top.proofs.FewSteps.{few_steps}
 use Rattle.rel_top.specs.Verdict.{IsBuilt, Outcome, no_proof, bad_step, open_nodes, accepted, Says, HasOutcome, no_bundle, judged, MayHold}
 
--- ---- the limits keep the numbers of variables within 32 bits
+-- ---- the obligation
 
-len_is : (cs : List Command) → limits.block_len (block_of cs) ≡ length cs
-len_is [] = refl
-len_is (c ∷ cs) = ap (λ n. 1 + n) (len_is cs) ∙ omega arith
-
-few_globals : (u : UnitItem) (n : ℕ) → length u.globals ≡ n → FitsUnit u → n < 2 ^ 30
-few_globals u n e f = let few = f.globals in omega (arith, few, e)
-
-few_commands : (u : UnitItem) (p : Proc) (n : ℕ) → IsPlainUnit u p → limits.block_len p.body.commands ≡ n → FitsUnit u → n < 2 ^ 30
-few_commands u p n plain e f =
-    let proc : FitProcs (p ∷ []) = subst FitProcs plain.procs f.procs in
-    let few = proc.0.commands.0 in
-    omega (arith, few, e)
-
-pub has_few : (b : B.Bundle) (p : P.Parts) → HasForm (bundle_of b) (parts_view p) → Fits (bundle_of b) → HasFew p
-has_few b p form fits =
-    let k = parts_view p in
-    let items : FitItems (unit k.left ∷ unit k.right ∷ judge k.judgement ∷ []) = subst FitItems form.parts.items fits.1 in
-    record {
-      left_globals = few_globals k.left _ (length-map p.left.now.globals decl_of) items.0;
-      right_globals = few_globals k.right _ (length-map p.right.now.globals decl_of) items.1.0;
-      left_commands = few_commands k.left k.left_proc _ form.parts.left (len_is p.left_proc.now.body.commands) items.0;
-      right_commands = few_commands k.right k.right_proc _ form.parts.right (len_is p.right_proc.now.body.commands) items.1.0;
-    }
-
-pub is_obligation : (q : Sequent) (p : P.Parts) → sequent_of q ≡ obligation_of (parts_view p) → IsObligation q (parts_view p)
+pub is_obligation : (q : Sequent) (k : Parts) → sequent_of q ≡ obligation_of k → ((b : Bundle) → HasForm b k → IsValid (sequent_of q) → IsTrueBundle b) → IsObligation q k
 unfolding IsObligation
-is_obligation q p e = e
+is_obligation q k same enough = (same, enough)
 
 -- ---- a derivation comes to one outcome
 
@@ -103,14 +78,15 @@ pub steps_answer : (q : Sequent) (k : Parts) (steps : List Step) (v w : D.Verdic
     → IsVerdict (sequent_of q) steps v → ((u : D.Verdict) → IsVerdict (sequent_of q) steps u → u ≡ v) → (v ≡ Accepted) ↔ IsAccepted (sequent_of q) steps
     → v ≡ w → a ≡ answer_of (answer (judged k (outcome_of w))) → IsStepsAnswer k steps a
 unfolding IsObligation IsStepsAnswer
-steps_answer q k steps v w a same has only exact is_w is content said =
+steps_answer q k steps v w a obligation has only exact is_w is content said =
+    let same = obligation.0 in
     let h : IsVerdict (obligation_of k) steps v = subst (λ s. IsVerdict s steps v) same has in record {
       outcome = outcome_of v;
       has = has_outcome k content steps said v h;
       only = only_outcome k content steps said v
           (subst (λ s. (u : D.Verdict) → IsVerdict s steps u → u ≡ v) same only)
           (subst (λ s. (v ≡ Accepted) ↔ IsAccepted s steps) same exact);
-      valid = is_valid k content steps said v h;
+      enough = λ e b form. obligation.1 b form (subst IsValid (sym same) (is_valid k content steps said v h e));
       is = is ∙ ap (λ u. answer_of (answer (judged k (outcome_of u)))) (sym is_w);
     }
 
@@ -128,7 +104,7 @@ none_said k content none accepted h = absurd (none_is (proof_of content) h.steps
 
 pub no_steps : (k : Parts) (content : List ℕ) (a : Answer) → proof_of content ≡ None → a ≡ answer_of (answer (judged k no_proof)) → IsProofAnswer k content a
 unfolding IsProofAnswer
-no_steps k content a none is = record { outcome = no_proof; has = none; only = none_said k content none; valid = λ e. absurd cc; is = is }
+no_steps k content a none is = record { outcome = no_proof; has = none; only = none_said k content none; enough = λ e. absurd cc; is = is }
 
 pub ruleset of_proof = (steps_said, no_steps, few_steps)
 

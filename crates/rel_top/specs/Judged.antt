@@ -1,20 +1,20 @@
 -- What the answers of the parts of `check` say, each under a word of its own.
-use Rattle.std.specs.Prelude.{◌≡◌, ◌≢◌, ◌⊎◌, ℕ, ◌^◌, ◌<◌, List, length, Some}
+use Rattle.std.specs.Prelude.{◌≡◌, ◌≢◌, ◌⊎◌, ℕ, List, Some}
 use Rattle.rel_io.specs.Told.{Told, untold}
 use Rattle.rel_lang.specs.Syntax.{Bundle}
 use Rattle.rel_lang.specs.Text.{StandsFor}
+use Rattle.rel_lang.specs.TrueBundle.{IsTrueBundle}
 use Rattle.rel_derive.specs.declared.step.Step.{Step}
 use Rattle.rel_logic.specs.declared.sequent.Sequent.{Sequent}
 use Rattle.rel_logic.specs.Truth.{IsValid}
 use Rattle.rel_logic.specs.View.{sequent_of}
 use Rattle.rel_top.specs.declared.check.Answer.{Answer}
-use Rattle.rel_top.specs.declared.form.Parts as P
 use Rattle.rel_top.specs.declared.status.Status.{Status}
 use Rattle.rel_top.specs.declared.status.Status.TheVariants.{Yes, OutputFault}
 use Rattle.rel_top.specs.Ending.{Words, check_words, Reply, unread, answer, HasReply, status_of, lines_of, Output, IsPrinted, IsCutOff}
-use Rattle.rel_top.specs.Form.{Parts, HasForm}
+use Rattle.rel_linking.specs.Form.{Parts, HasForm}
 use Rattle.rel_top.specs.Headline.{IsYes}
-use Rattle.rel_top.specs.Obligation.{obligation_of}
+use Rattle.rel_linking.specs.Obligation.{obligation_of}
 use Rattle.rel_top.specs.ProofFile.{proof_of}
 use Rattle.rel_top.specs.Verdict.{IsBuilt, IsNotBuilt, Outcome, accepted, HasOutcome, Verdict, no_bundle, judged, MayHold, HasVerdict}
 
@@ -22,23 +22,16 @@ use Rattle.rel_top.specs.Verdict.{IsBuilt, IsNotBuilt, Outcome, accepted, HasOut
 abbrev pub answer_of : Reply → Answer
 answer_of r = record { status = status_of r; lines = lines_of r }
 
--- few enough variables for numbers of 32 bits
-pub record HasFew (p : P.Parts) : Type 0 where
-  pub left_globals : length p.left.now.globals < 2 ^ 30
-  pub right_globals : length p.right.now.globals < 2 ^ 30
-  pub left_commands : length p.left_proc.now.body.commands < 2 ^ 30
-  pub right_commands : length p.right_proc.now.body.commands < 2 ^ 30
-
--- the sequent is the obligation of these parts
+-- the sequent is the obligation of these parts, and where it is valid their bundle is true
 unfoldable pub IsObligation : Sequent → Parts → Type 0
-IsObligation q k = sequent_of q ≡ obligation_of k
+IsObligation q k = (sequent_of q ≡ obligation_of k) × ((b : Bundle) → HasForm b k → IsValid (sequent_of q) → IsTrueBundle b)
 
--- the answer is the one outcome of a proof file's bytes; where they are accepted, the obligation is valid
+-- the answer is the one outcome of a proof file's bytes; where they are accepted, the bundle of the parts is true
 pub record IsOutcomeAnswer (k : Parts) (content : List ℕ) (a : Answer) : Type 0 where
   pub outcome : Outcome
   pub has : HasOutcome k outcome content
   pub only : (o : Outcome) → HasOutcome k o content → o ≡ outcome
-  pub valid : outcome ≡ accepted → IsValid (obligation_of k)
+  pub enough : outcome ≡ accepted → (b : Bundle) → HasForm b k → IsTrueBundle b
   pub is : a ≡ answer_of (answer (judged k outcome))
 
 -- of these steps

@@ -2,7 +2,7 @@
 use Rattle.std.specs.Prelude.{ℕ, List, [], ◌∷◌, ◌++◌, codes}
 use Rattle.std.specs.Fmt.{decimal}
 use Rattle.rel_lang.specs.Syntax.{Judgement}
-use Rattle.rel_top.specs.Form.{Parts}
+use Rattle.rel_linking.specs.Form.{Parts}
 
 -- a text and the line feed that ends a line
 abbrev pub line : List ℕ → List ℕ

@@ -7,8 +7,8 @@ use Rattle.rel_lang.specs.Text.{StandsFor}
 use Rattle.rel_derive.specs.Rules.{IsAccepted}
 use Rattle.rel_derive.specs.Stack.{IsBadStep, LeavesOpen}
 use Rattle.rel_derive.specs.declared.step.Step.{Step}
-use Rattle.rel_top.specs.Form.{Parts, HasForm}
-use Rattle.rel_top.specs.Obligation.{obligation_of}
+use Rattle.rel_linking.specs.Form.{Parts, HasForm}
+use Rattle.rel_linking.specs.Obligation.{obligation_of}
 use Rattle.rel_top.specs.ProofFile.{proof_of}
 use Rattle.rel_top.specs.Report.{bundle_line, proof_line, bad_step_line, open_nodes_line, yes_lines}
 use Rattle.rel_top.specs.declared.status.Status.{Status}

@@ -6,13 +6,11 @@ ghost use Rattle.rel_io.specs.Answers.{IfFailed, UnlessFailed, IfTooLong};
 ghost use Rattle.rel_lang.specs.Limits.{Fits};
 ghost use Rattle.rel_lang.specs.View.{bundle_of};
 ghost use Rattle.rel_top.specs.Ending.{ReadFailed, unread, answer};
-ghost use Rattle.rel_top.specs.Judged.{HasFew, IsObligation, IsStepsAnswer, IsProofAnswer, IsPartsAnswer, IsBundleAnswer, IsTextAnswer, IsCheckAnswer, answer_of};
-ghost use Rattle.rel_top.specs.Parts.{parts_view};
+ghost use Rattle.rel_top.specs.Judged.{IsObligation, IsStepsAnswer, IsProofAnswer, IsPartsAnswer, IsBundleAnswer, IsTextAnswer, IsCheckAnswer, answer_of};
+ghost use Rattle.rel_linking.specs.Parts.{HasFew, parts_view};
 ghost use Rattle.rel_top.specs.Verdict.{no_bundle, judged, no_proof};
 ghost use Rattle.rel_top.specs.Verdict as V;
 
-use crate::form::{Parts, parts_of};
-use crate::obligation::obligation;
 use crate::proof_file::{ProofFault, read_proof};
 use crate::report;
 use crate::status::Status;
@@ -21,6 +19,8 @@ use rel_derive::checker::{Verdict, accepts};
 use rel_derive::step::Step;
 use rel_io::{FileFault, Files};
 use rel_lang::bundle::Bundle;
+use rel_linking::form::{Parts, parts_of};
+use rel_linking::obligation::obligation;
 use rel_list::{List, Memory, Name};
 use rel_logic::sequent::Sequent;
 use std::alloc::Global;
@@ -146,22 +146,6 @@ fn check_bundle<F: Files>(
     }
 }
 
-/// The obligation of the parts.
-#[tactic(auto, using(crate::proofs::Verdicts::is_obligation))]
-fn obligation_in(alloc: Global, parts: &Parts<'_>) -> Result<Sequent, Memory>
-    requires { HasFew parts.now }
-    ensures { IfOk result (λ q. IsObligation q (parts_view parts.now)) }
-{
-    obligation(
-        alloc,
-        parts.left,
-        parts.left_proc,
-        parts.right,
-        parts.right_proc,
-        parts.judgement,
-    )
-}
-
 fn check_parts<F: Files>(
     alloc: Global,
     parts: &Parts<'_>,
@@ -176,7 +160,7 @@ fn check_parts<F: Files>(
     ensures contents_stay { F.told files.new ≡ F.told files.old }
     ensures quiet { IfOk result (λ a. a.status ≢ Status.FileFault → F.faults files.new ≡ F.faults files.old) }
 {
-    let sequent = obligation_in(alloc, parts)?;
+    let sequent = obligation(alloc, parts)?;
     Ok(check_sequent(alloc, parts, &sequent, proof, files)?)
 }
 

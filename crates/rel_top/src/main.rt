@@ -2,8 +2,6 @@
 #![tactic(auto)]
 
 mod check;
-mod form;
-mod obligation;
 mod proof_file;
 mod report;
 mod run;

@@ -1,10 +1,10 @@
 use Rattle.rel_lang.specs.View.{bundle_of}
-use Rattle.rel_top.specs.Parts.{parts_view}
-use Rattle.rel_top.proofs.Verdicts.{has_few, parts_found, no_parts}
+use Rattle.rel_linking.specs.Parts.{parts_view}
+use Rattle.rel_top.proofs.Verdicts.{parts_found, no_parts}
 use Rattle.rel_top.proofs.check.check_bundle.Goals as goal
 
 pub check_parts-requires : goal.check_parts-requires
-check_parts-requires g c = has_few c.args.bundle.now c.in-Some.parts c.in-Some.ensures.found c.requires
+check_parts-requires g c = c.in-Some.ensures.few c.requires
 
 pub returns-in_ok-check_parts-in-Some-clause-answer : goal.returns-in_ok-check_parts-in-Some-clause-answer
 returns-in_ok-check_parts-in-Some-clause-answer g c =
