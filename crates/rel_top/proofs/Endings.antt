@@ -7,7 +7,6 @@ use Rattle.std.specs.List.{concat}
 use Rattle.rel_io.specs.Told.{Told, untold, absent, bytes, IsToldAs, Rose, Appends, AppendsFront}
 use Rattle.rel_lang.specs.Syntax.{Bundle}
 use Rattle.rel_lang.specs.TrueBundle.{IsTrueBundle, StandsForTrueBundle}
-use Rattle.rel_logic.specs.Truth.{IsValid}
 use Rattle.rel_top.specs.declared.check.Answer.{Answer}
 use Rattle.rel_top.specs.declared.status.Status.{Status}
 use Rattle.rel_top.specs.declared.status.Status.TheVariants.{Yes, FileFault, OutputFault, Memory}
@@ -15,7 +14,6 @@ use Rattle.rel_top.specs.Ending.{Words, check_words, Reply, usage, unread, answe
 use Rattle.rel_linking.specs.Form.{Parts, HasForm}
 use Rattle.rel_top.specs.Headline.{WhereTold, IsYes}
 use Rattle.rel_top.specs.Judged.{IsOutcomeAnswer, IsProofAnswer, IsPartsAnswer, IsBuiltOnce, IsTextAnswer, IsCheckAnswer, IsReply, IsWordsAnswer, IsPrintedAs, answer_of}
-use Rattle.rel_linking.specs.Obligation.{obligation_of}
 use Rattle.rel_top.specs.Verdict.{IsBuilt, IsNotBuilt, Outcome, no_proof, bad_step, open_nodes, accepted, HasOutcome, Verdict, no_bundle, judged, outcome_status, HasVerdict}
 use Rattle.rel_top.proofs.Verdicts.{same_parts}
 

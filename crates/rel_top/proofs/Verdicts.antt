@@ -1,22 +1,18 @@
 -- From what the parts of `check` find to what they answer.
-use Rattle.std.proofs.Common.{◌≡◌, ◌↔◌, inl, inr, ℕ, suc, ◌+◌, ◌^◌, ◌<◌, ◌≤◌, List, [], ◌∷◌, length, replicate, Option, Some, None, Result, Err, option_and_then, refl, sym, ap, subst, ◌∙◌, cond, arith}
+use Rattle.std.proofs.Common.{◌≡◌, ◌↔◌, inl, inr, ℕ, suc, ◌^◌, ◌<◌, ◌≤◌, List, [], ◌∷◌, length, replicate, Option, Some, None, Result, Err, option_and_then, refl, sym, ap, subst, ◌∙◌, cond, arith}
 use Rattle.std.specs.Prelude.{nat_le}
 use Rattle.std.specs.Str.{is_utf8}
 use Rattle.std.proofs.lemmas.Bool.{and_left, lt-leb}
-use Rattle.std.proofs.lemmas.List.{length-map, length-replicate}
+use Rattle.std.proofs.lemmas.List.{length-replicate}
 use Rattle.serde_json.specs.Read.{read}
 use Rattle.rel_io.specs.Answers.{IfFailed, IfTooLong}
 use Rattle.rel_io.specs.declared.files.FileFault.{FileFault}
 use Rattle.rel_io.specs.declared.files.FileFault.TheVariants as faults
 use Rattle.rel_io.specs.Told.{Told, untold, absent, bytes, IsToldAs, IsLonger}
-use Rattle.rel_lang.specs.declared.command.Command.{Command}
-use Rattle.rel_lang.specs.declared.bundle.Bundle as B
-use Rattle.rel_lang.specs.Syntax.{Proc, UnitItem, unit, judge, Bundle}
-use Rattle.rel_lang.specs.Limits.{Fits, FitItems, FitsUnit, FitProcs, FitsProc}
-use Rattle.rel_lang.specs.Limits as limits
+use Rattle.rel_lang.specs.Syntax.{Bundle}
+use Rattle.rel_lang.specs.Limits.{Fits}
 use Rattle.rel_lang.specs.Text.{StandsFor}
 use Rattle.rel_lang.specs.TrueBundle.{IsTrueBundle}
-use Rattle.rel_lang.specs.View.{decl_of, block_of, bundle_of}
 use Rattle.rel_logic.specs.declared.sequent.Sequent.{Sequent}
 use Rattle.rel_logic.specs.Truth.{IsValid}
 use Rattle.rel_logic.specs.View.{sequent_of}
@@ -27,7 +23,7 @@ use Rattle.rel_derive.specs.Rules.{IsAccepted}
 use Rattle.rel_derive.specs.Stack.{IsBadStep, LeavesOpen, IsVerdict}
 use Rattle.rel_top.specs.declared.check.Answer.{Answer}
 use Rattle.rel_top.specs.Ending.{ReadFailed, unread, answer}
-use Rattle.rel_linking.specs.Form.{Parts, IsPlainUnit, HasForm}
+use Rattle.rel_linking.specs.Form.{Parts, HasForm}
 use Rattle.rel_top.specs.Judged.{IsObligation, IsStepsAnswer, IsProofAnswer, IsPartsAnswer, IsBundleAnswer, IsBuiltOnce, IsTextAnswer, IsCheckAnswer, answer_of}
 use Rattle.rel_linking.specs.Obligation.{obligation_of}
 use Rattle.rel_top.specs.ProofFile.{proof_of, json_of, steps_of, derivation_of}
