@@ -217,6 +217,9 @@ unfolding IsPrintedAs
 not_unread out a status (inl p) read put e = read (p.0 ∙ e)
 not_unread out a status (inr p) read put e = put p.0
 
+answer_is : (v w : Verdict) → answer v ≡ answer w → v ≡ w
+answer_is v w e = cc
+
 module _ (told : List ℕ → Told) (Failed : List ℕ → Type 0) (words : Words) (out : Output) where
   pub ends_well : (a : Answer) (status : Status) → IsWordsAnswer told Failed words a → IsPrintedAs out a status → Ends (HasReply told Failed words) out status
   unfolding IsWordsAnswer Ends
@@ -225,8 +228,11 @@ module _ (told : List ℕ → Told) (Failed : List ℕ → Type 0) (words : Word
   pub decided_well : (a : Answer) (status : Status) (FilesFailed : Type 0) → ((name : List ℕ) → Failed name → FilesFailed) → IsWordsAnswer told Failed words a → IsPrintedAs out a status → IsDecided told FilesFailed words out status
   unfolding IsWordsAnswer IsDecided
   decided_well a status FilesFailed failed h p b q v e t u none has =
-      let same = h.decided b q v e t u (λ name f. none (failed name f)) has in
-      subst (λ r. EndsWith r out status) same (ends_with h.reply out a status h.is p)
+      let read : (name : List ℕ) → ¬ (Failed name) = λ name f. none (failed name f) in
+      let same = h.decided b q v e t u read has in (
+        subst (λ r. EndsWith r out status) same (ends_with h.reply out a status h.is p),
+        inr (λ w other. answer_is w v (sym (h.decided b q w e t u read other) ∙ same)),
+      )
 
   pub yes_well : (a : Answer) (status : Status) → IsWordsAnswer told Failed words a → IsPrintedAs out a status → status ≡ Yes → IsYes told words
   unfolding IsWordsAnswer IsPrintedAs
@@ -239,4 +245,4 @@ module _ (told : List ℕ → Told) (Failed : List ℕ → Type 0) (words : Word
 
 pub undecided : (told : List ℕ → Told) (FilesFailed : Type 0) (words : Words) (out : Output) → IsSilent out → IsDecided told FilesFailed words out Memory
 unfolding IsDecided
-undecided told FilesFailed words out silent b q v e t u none has = silent
+undecided told FilesFailed words out silent b q v e t u none has = (silent, inl refl)

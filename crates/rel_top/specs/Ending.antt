@@ -87,8 +87,9 @@ EndsWith r out Unproved = ⊥
 unfoldable pub Ends : (Reply → Type 0) → Output → Status → Type 0
 Ends Has out status = ((status ≡ Memory) × IsSilent out) ⊎ ((r : Reply) × Has r × EndsWith r out status)
 
--- Where both files are told and no read failed, the call ends with the one verdict on them.
+-- Where both files are told and no read failed, the call ends with the verdict on them; and there is no other one, or there was no memory.
 unfoldable pub IsDecided : (List ℕ → Told) → Type 0 → Words → Output → Status → Type 0
 IsDecided told FilesFailed words out status =
     (bundle proof : List ℕ) (v : Verdict) → words ≡ check_words bundle proof → told bundle ≢ untold → told proof ≢ untold
-    → ¬ FilesFailed → HasVerdict (told bundle) (told proof) v → EndsWith (answer v) out status
+    → ¬ FilesFailed → HasVerdict (told bundle) (told proof) v
+    → EndsWith (answer v) out status × ((status ≡ Memory) ⊎ ((w : Verdict) → HasVerdict (told bundle) (told proof) w → w ≡ v))

@@ -25,7 +25,7 @@ pub fn run<F: Files, S: Sink>(alloc: Global, words: &[String], files: &mut F, ou
         (F.read_faults files.old) (F.read_faults files.new))
         (map string_bytes words.now))
         (output (S.written out.old) (S.written out.new) (S.faults out.old) (S.faults out.new)) result }
-    // Where the files are told and no read fails, the one verdict on them is the answer.
+    // Where the files are told and no read fails, the one verdict on them is what the call ends with.
     ensures decided { IsDecided (F.told files.old) (Rose (F.faults files.old) (F.faults files.new))
         (map string_bytes words.now)
         (output (S.written out.old) (S.written out.new) (S.faults out.old) (S.faults out.new)) result }
