@@ -1,9 +1,10 @@
 //! Reads expressions.
 
-ghost use Rattle.std.specs.Prelude.{◌≡◌};
+ghost use Rattle.std.specs.Prelude.{◌≡◌, ◌≢◌, IfErr};
 ghost use Rattle.rel_lang.specs.Syntax.{var, num};
 ghost use Rattle.rel_lang.specs.View.{exp_of};
 ghost use Rattle.rel_decls.specs.Reading.{Gives, sign_at, pair_at, exp_at, join};
+ghost use Rattle.rel_decls.specs.declared.fault.TextFault.TheVariants as faults;
 
 use crate::fault::TextFault;
 use crate::token::{expect, first};
@@ -22,7 +23,8 @@ pub const SPLIT_DEPTH: u32 = 62;
 
 /// Whether it is a sum, and the tokens behind the sign.
 fn sign_of<'a>(tokens: &'a [Token<'a>]) -> Result<(bool, &'a [Token<'a>]), TextFault>
-    ensures { Gives (λ x. (x.0, x.1.now)) result (sign_at tokens.now) }
+    ensures gives { Gives (λ x. (x.0, x.1.now)) result (sign_at tokens.now) }
+    ensures no_memory { IfErr result (λ e. e ≢ faults.Memory) }
 {
     let (token, rest) = first(tokens)?;
     if token.text == "+" {

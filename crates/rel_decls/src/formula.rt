@@ -1,8 +1,9 @@
 //! Reads formulas.
 
-ghost use Rattle.std.specs.Prelude.{◌≡◌};
+ghost use Rattle.std.specs.Prelude.{◌≡◌, ◌≢◌, IfErr};
 ghost use Rattle.rel_lang.specs.View.{rel_of, clause_of, rel_clause_of};
 ghost use Rattle.rel_decls.specs.Reading.{Gives, rel_at, clause_at, rel_clause_at};
+ghost use Rattle.rel_decls.specs.declared.fault.TextFault.TheVariants as faults;
 
 use crate::expr::{FORMULA_DEPTH, expr_of};
 use crate::fault::TextFault;
@@ -15,7 +16,8 @@ use std::alloc::Global;
 
 #[tactic(auto, unfolding(crate::specs::Reading::clause_at))]
 pub fn clause<'a>(tokens: &'a [Token<'a>]) -> Result<(Clause, &'a [Token<'a>]), TextFault>
-    ensures { Gives (λ x. (clause_of x.0, x.1.now)) result (clause_at tokens.now) }
+    ensures gives { Gives (λ x. (clause_of x.0, x.1.now)) result (clause_at tokens.now) }
+    ensures no_memory { IfErr result (λ e. e ≢ faults.Memory) }
 {
     let at = place(tokens)?;
     let rest = expect(tokens, "true")?;

@@ -1,9 +1,10 @@
 //! Reads procedures.
 
-ghost use Rattle.std.specs.Prelude.{◌≡◌, map};
+ghost use Rattle.std.specs.Prelude.{◌≡◌, map, ◌≢◌, IfErr};
 ghost use Rattle.rel_lang.specs.View.{type_of, clause_of, decl_of, effect_of, spec_of, block_of, proc_of};
 ghost use Rattle.rel_decls.specs.Reading.{Gives, clauses_at, writes_at, spec_at, body_at};
 ghost use Rattle.rel_decls.specs.Reading.{head_at, result_at, proc_at};
+ghost use Rattle.rel_decls.specs.declared.fault.TextFault.TheVariants as faults;
 
 use crate::command::commands;
 use crate::decl::{decls, effects, params};
@@ -21,7 +22,8 @@ use std::alloc::Global;
 /// What it requires and ensures.
 #[tactic(auto, unfolding(crate::specs::Reading::clauses_at))]
 fn clauses<'a>(tokens: &'a [Token<'a>]) -> Result<((Clause, Clause), &'a [Token<'a>]), TextFault>
-    ensures { Gives (λ x. ((clause_of x.0.0, clause_of x.0.1), x.1.now)) result (clauses_at tokens.now) }
+    ensures gives { Gives (λ x. ((clause_of x.0.0, clause_of x.0.1), x.1.now)) result (clauses_at tokens.now) }
+    ensures no_memory { IfErr result (λ e. e ≢ faults.Memory) }
 {
     let rest = expect(tokens, "requires")?;
     let (needs, rest) = clause(rest)?;

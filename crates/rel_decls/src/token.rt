@@ -1,7 +1,8 @@
 //! Reads single tokens.
 
-ghost use Rattle.std.specs.Prelude.{◌≡◌};
+ghost use Rattle.std.specs.Prelude.{◌≡◌, ◌≢◌, IfErr};
 ghost use Rattle.rel_decls.specs.Reading.{Gives, first_at, expect_at, is_next, is_more, place_at, name_at};
+ghost use Rattle.rel_decls.specs.declared.fault.TextFault.TheVariants as faults;
 
 use crate::fault::TextFault;
 use rel_lexer::{Kind, Token};
@@ -12,7 +13,8 @@ use std::alloc::Global;
 pub const MOST: usize = 16384;
 
 pub fn first<'a>(tokens: &'a [Token<'a>]) -> Result<(Token<'a>, &'a [Token<'a>]), TextFault>
-    ensures { Gives (λ x. (x.0, x.1.now)) result (first_at tokens.now) }
+    ensures gives { Gives (λ x. (x.0, x.1.now)) result (first_at tokens.now) }
+    ensures no_memory { IfErr result (λ e. e ≢ faults.Memory) }
 {
     match tokens {
         [] => Err(TextFault::Refused),
@@ -22,7 +24,8 @@ pub fn first<'a>(tokens: &'a [Token<'a>]) -> Result<(Token<'a>, &'a [Token<'a>])
 
 /// The tokens behind one that has this text.
 pub fn expect<'a>(tokens: &'a [Token<'a>], text: &str) -> Result<&'a [Token<'a>], TextFault>
-    ensures { Gives (λ rest. rest.now) result (expect_at text.now tokens.now) }
+    ensures gives { Gives (λ rest. rest.now) result (expect_at text.now tokens.now) }
+    ensures no_memory { IfErr result (λ e. e ≢ faults.Memory) }
 {
     let (token, rest) = first(tokens)?;
     if token.text == text {
@@ -43,7 +46,8 @@ pub fn is_next(tokens: &[Token<'_>], text: &str) -> bool
 
 /// The byte where the tokens begin.
 pub fn place(tokens: &[Token<'_>]) -> Result<u32, TextFault>
-    ensures { Gives (λ at. at) result (place_at tokens.now) }
+    ensures gives { Gives (λ at. at) result (place_at tokens.now) }
+    ensures no_memory { IfErr result (λ e. e ≢ faults.Memory) }
 {
     let (token, _) = first(tokens)?;
     Ok(token.at)
