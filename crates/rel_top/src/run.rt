@@ -13,7 +13,8 @@ use rel_io::{Files, Sink, SinkFault};
 use rel_list::{List as Lines, Memory, Name};
 use std::alloc::Global;
 
-/// Does what the words say.
+/// Does what the words say: `check BUNDLE PROOF` judges the bundle under the first name by the proof
+/// file under the second. The lines of the answer go to `out`, one piece each.
 pub fn run<F: Files, S: Sink>(alloc: Global, words: &[String], files: &mut F, out: &mut S) -> Status
     // The bytes under the bundle's name, where they are told, stand for a bundle, and every bundle
     // that they stand for is true.

@@ -5,6 +5,7 @@
 pub enum Status {
     /// The bundle is true.
     Yes = 0,
+    /// The bundle, the proof file or the derivation was refused.
     Refused = 1,
     /// The words aren't those of a command.
     Usage = 2,
@@ -14,5 +15,6 @@ pub enum Status {
     OutputFault = 4,
     /// There was no memory.
     Memory = 5,
+    /// Kept for a search that finds no proof.
     Unproved = 6,
 }

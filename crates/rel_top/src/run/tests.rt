@@ -215,7 +215,7 @@ fn ends_after_both(
     puts_one_line(rt, alloc, case, later, expected)
 }
 
-/// With these faults of the files and of the sink, the good bundle and proof end so.
+/// How the good bundle and proof end with these faults of the files and of the sink.
 const FAULTS: [(&[u64], &[u64], &str); 11] = [
     (&[0], &[], BUNDLE_FAULT),
     (&[0, 1], &[], BUNDLE_FAULT),
@@ -420,7 +420,7 @@ fn a_derivation_that_does_not_fit_is_refused_at_its_step(rt: HostRuntime) -> Res
     Ok(())
 }
 
-/// Pieces of the good bundle, and texts in whose place there no tokens or no grammar is.
+/// Pieces of the good bundle, each with a text that in its place makes no tokens or no bundle.
 const ILL_FORMED: [(&str, &str); 15] = [
     ("( x + 2 )", "( x % 2 )"),
     ("unit U", "\u{feff}unit U"),
@@ -439,7 +439,7 @@ const ILL_FORMED: [(&str, &str); 15] = [
     ("( x =:= x )", "x =:= x"),
 ];
 
-/// Pieces of the good bundle, and texts in whose place it isn't typed.
+/// Pieces of the good bundle, each with a text that leaves the bundle untyped.
 const UNTYPED: [(&str, &str); 23] = [
     ("V", "U"),
     ("J", "U"),
@@ -478,7 +478,7 @@ const UNTYPED: [(&str, &str); 23] = [
     ("{ x } { x := ( x + 2 )", "{ x , y } { x := ( x + 2 )"),
 ];
 
-/// Pieces of the good bundle, and texts in whose place it is of another form.
+/// Pieces of the good bundle, each with a text that makes it one of another form.
 const OTHER_FORMS: [(&str, &str); 17] = [
     ("{ x } { x := ( x + 1 )", "{ } { x := ( x + 1 )"),
     ("{ x } { x := ( x + 2 )", "{ } { x := ( x + 2 )"),
@@ -534,7 +534,7 @@ fn another_form_is_refused(rt: HostRuntime) -> Result<(), Fail> {
     are_refused(&rt, rt.alloc(), &OTHER_FORMS)
 }
 
-/// The right unit first and the judgement turned round with it, and then the split too.
+/// The split turned round, then the judgement with it, and the units alone.
 #[test]
 fn only_the_first_unit_stands_on_the_left(rt: HostRuntime) -> Result<(), Fail> {
     let alloc = rt.alloc();
@@ -668,7 +668,7 @@ fn a_bundle_has_at_most_4194304_bytes(rt: HostRuntime) -> Result<(), Fail> {
     refuses_bundle(&rt, rt.alloc(), "4,194,305 bytes", bundle.as_slice())
 }
 
-/// Pieces of the good bundle, and texts in whose place it is as true.
+/// Pieces of the good bundle, each with a text that leaves it as true.
 const UNUSUAL: [(&str, &str); 16] = [
     ("; }\n", "; }"),
     ("; }\n", "; } // the end"),
