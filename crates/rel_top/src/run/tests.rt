@@ -519,21 +519,6 @@ fn are_refused(rt: &impl Abort, alloc: Global, changes: &[(&str, &str)]) -> Resu
     Ok(())
 }
 
-#[test]
-fn what_the_grammar_does_not_have_is_refused(rt: HostRuntime) -> Result<(), Fail> {
-    are_refused(&rt, rt.alloc(), &ILL_FORMED)
-}
-
-#[test]
-fn what_is_not_typed_is_refused(rt: HostRuntime) -> Result<(), Fail> {
-    are_refused(&rt, rt.alloc(), &UNTYPED)
-}
-
-#[test]
-fn another_form_is_refused(rt: HostRuntime) -> Result<(), Fail> {
-    are_refused(&rt, rt.alloc(), &OTHER_FORMS)
-}
-
 /// The split turned round, then the judgement with it, and the units alone.
 #[test]
 fn only_the_first_unit_stands_on_the_left(rt: HostRuntime) -> Result<(), Fail> {
@@ -582,16 +567,16 @@ fn a_text_that_is_cut_off_is_refused(rt: HostRuntime) -> Result<(), Fail> {
     Ok(())
 }
 
-#[test]
-fn bytes_that_are_no_text_are_refused(rt: HostRuntime) -> Result<(), Fail> {
-    let mut bytes = Vec::from_slice(rt.alloc(), good(rt.alloc())?.as_bytes())?;
+/// Bytes that aren't UTF-8, in the bundle and in the proof file.
+fn refuses_other_bytes(rt: &impl Abort, alloc: Global) -> Result<(), Fail> {
+    let mut bytes = Vec::from_slice(alloc, good(alloc)?.as_bytes())?;
     bytes.extend_from_slice(b"// \xff")?;
-    refuses_bundle(&rt, rt.alloc(), "bundle", bytes.as_slice())?;
-    let mut bytes = Vec::from_slice(rt.alloc(), PROOF.as_bytes())?;
+    refuses_bundle(rt, alloc, "bundle", bytes.as_slice())?;
+    let mut bytes = Vec::from_slice(alloc, PROOF.as_bytes())?;
     bytes.push(255)?;
-    let bundle = good(rt.alloc())?;
+    let bundle = good(alloc)?;
     let call = checking(bundle.as_bytes(), bytes.as_slice());
-    ends_after_both(&rt, rt.alloc(), "proof", call, NO_PROOF)
+    ends_after_both(rt, alloc, "proof", call, NO_PROOF)
 }
 
 /// The core between so many fronts and backs.
@@ -629,10 +614,10 @@ fn with_globals(alloc: Global, count: u32) -> Result<String, Fail> {
     good_but(alloc, "U {", globals.as_str())
 }
 
-#[test]
-fn more_than_16384_globals_are_refused(rt: HostRuntime) -> Result<(), Fail> {
-    let bundle = with_globals(rt.alloc(), 16_384)?;
-    refuses_bundle(&rt, rt.alloc(), "16,385 globals", bundle.as_bytes())
+/// An element over the limit of a row.
+fn refuses_a_long_row(rt: &impl Abort, alloc: Global) -> Result<(), Fail> {
+    let bundle = with_globals(alloc, 16_384)?;
+    refuses_bundle(rt, alloc, "16,385 globals", bundle.as_bytes())
 }
 
 /// What follows the first member is the repetition that has a limit.
@@ -691,12 +676,11 @@ const UNUSUAL: [(&str, &str); 16] = [
     ("( x + 2 )", "( ( 7 + x ) - ( 6 - 1 ) )"),
 ];
 
-#[test]
-fn unusual_bundles_are_judged(rt: HostRuntime) -> Result<(), Fail> {
+fn reads_unusual_bundles(rt: &impl Abort, alloc: Global) -> Result<(), Fail> {
     for (piece, new) in UNUSUAL {
-        let bundle = good_but(rt.alloc(), piece, new)?;
+        let bundle = good_but(alloc, piece, new)?;
         let call = checking(bundle.as_bytes(), PROOF.as_bytes());
-        assert_eq!(rt; outcome(rt.alloc(), call)?.as_str(), YES, "{bundle}");
+        assert_eq!(rt; outcome(alloc, call)?.as_str(), YES, "{bundle}");
     }
     Ok(())
 }
@@ -750,23 +734,21 @@ const NO_PROOF_FILES: [&str; 34] = [
     "{\"whyrel\":1,\"proofs\":[[[\"farkas\",[[6,\"170141183460469231731687303715884105728\"]]]]]}",
 ];
 
-#[test]
-fn what_is_no_proof_file_is_refused(rt: HostRuntime) -> Result<(), Fail> {
-    let bundle = good(rt.alloc())?;
+fn refuses_other_proof_files(rt: &impl Abort, alloc: Global) -> Result<(), Fail> {
+    let bundle = good(alloc)?;
     for proof in NO_PROOF_FILES {
         let call = checking(bundle.as_bytes(), proof.as_bytes());
-        ends_after_both(&rt, rt.alloc(), proof, call, NO_PROOF)?;
+        ends_after_both(rt, alloc, proof, call, NO_PROOF)?;
     }
-    let arrays = nested(rt.alloc(), "[", "", "]", 200)?;
-    let proof = format!(in rt.alloc(); "{{\"whyrel\":1,\"proofs\":{arrays}}}")?;
+    let arrays = nested(alloc, "[", "", "]", 200)?;
+    let proof = format!(in alloc; "{{\"whyrel\":1,\"proofs\":{arrays}}}")?;
     let call = checking(bundle.as_bytes(), proof.as_bytes());
-    ends_after_both(&rt, rt.alloc(), "nested arrays", call, NO_PROOF)
+    ends_after_both(rt, alloc, "nested arrays", call, NO_PROOF)
 }
 
 /// Of a repeated key the last value counts. The order of the keys doesn't.
-#[test]
-fn unusual_proof_files_are_read(rt: HostRuntime) -> Result<(), Fail> {
-    let bundle = good(rt.alloc())?;
+fn reads_unusual_proof_files(rt: &impl Abort, alloc: Global) -> Result<(), Fail> {
+    let bundle = good(alloc)?;
     for proof in [
         "{\"whyrel\":1,\"proofs\":[[]]}",
         "{\"whyrel\":2,\"proofs\":[[]],\"whyrel\":1}",
@@ -775,7 +757,21 @@ fn unusual_proof_files_are_read(rt: HostRuntime) -> Result<(), Fail> {
     ] {
         let call = checking(bundle.as_bytes(), proof.as_bytes());
         let open = "1|refused OpenNodes 1 obligation 0 in judge J at 229\n";
-        ends_after_both(&rt, rt.alloc(), proof, call, open)?;
+        ends_after_both(rt, alloc, proof, call, open)?;
     }
     Ok(())
+}
+
+/// Each reason to refuse a bundle or a proof file, and texts that are unusual and read, with their lines.
+#[test]
+fn each_reason_has_its_line(rt: HostRuntime) -> Result<(), Fail> {
+    let alloc = rt.alloc();
+    are_refused(&rt, alloc, &ILL_FORMED)?;
+    are_refused(&rt, alloc, &UNTYPED)?;
+    are_refused(&rt, alloc, &OTHER_FORMS)?;
+    refuses_other_bytes(&rt, alloc)?;
+    refuses_a_long_row(&rt, alloc)?;
+    reads_unusual_bundles(&rt, alloc)?;
+    refuses_other_proof_files(&rt, alloc)?;
+    reads_unusual_proof_files(&rt, alloc)
 }
