@@ -22,7 +22,8 @@ use std::alloc::Global;
 /// What it requires and ensures.
 #[tactic(auto, unfolding(crate::specs::Reading::clauses_at))]
 fn clauses<'a>(tokens: &'a [Token<'a>]) -> Result<((Clause, Clause), &'a [Token<'a>]), TextFault>
-    ensures gives { Gives (λ x. ((clause_of x.0.0, clause_of x.0.1), x.1.now)) result (clauses_at tokens.now) }
+    ensures gives { Gives (λ x. ((clause_of x.0.0, clause_of x.0.1), x.1.now)) result
+        (clauses_at tokens.now) }
     ensures no_memory { IfErr result (λ e. e ≢ faults.Memory) }
 {
     let rest = expect(tokens, "requires")?;
