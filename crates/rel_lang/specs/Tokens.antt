@@ -1,6 +1,7 @@
 -- The tokens of a text.
-use Rattle.std.specs.Prelude.{ℕ, ◌+◌, ◌-◌, ◌^◌, ◌==◌, ◌&&◌, ◌||◌, nat_le, Bool, false, not, if◌then◌else◌, List, [], ◌∷◌, length, take, Option, Some, None, option_map, codes, encode_utf8, nat_eq, take_while, bytes_eq}
+use Rattle.std.specs.Prelude.{ℕ, ◌+◌, ◌-◌, ◌^◌, ◌==◌, ◌&&◌, ◌||◌, nat_le, Bool, false, not, if◌then◌else◌, List, [], ◌∷◌, length, take, Option, Result, Ok, Err, codes, encode_utf8, nat_eq, take_while, bytes_eq}
 use Rattle.std.specs.List.{list_any, list_all, starts_with}
+use Rattle.std.specs.Result.{result_ok}
 use Rattle.std.specs.Str.{encode_utf8_all, chars}
 use Rattle.std.specs.Str.Parse.{digits_value}
 use Rattle.unicode_ident.specs.Ident.{is_xid_start, is_xid_continue}
@@ -45,11 +46,12 @@ symbols =
 
 -- ---- pieces
 
--- what begins at a character: so many characters that only separate, so many of a token, or nothing that a text may hold
+-- what begins at a character: so many characters that only separate, so many of a token, a character so many on that begins nothing, or a number that no literal may have
 pub data Piece : Type 0 where
   gap : ℕ → Piece
   token : ℕ → Piece
-  bad : Piece
+  bad : ℕ → Piece
+  wide : Piece
 
 -- how many of the first characters pass
 abbrev pub run_len : (ℕ → Bool) → List ℕ → ℕ
@@ -57,22 +59,24 @@ run_len p cs = length (take_while p cs)
 
 -- a comment goes from `//` to the line feed or the end of the text
 abbrev pub comment_piece : List ℕ → Piece
-comment_piece [] = bad
-comment_piece (c ∷ cs) = if c == slash then gap (2 + run_len (λ d. not (is_line_feed d)) cs) else bad
+comment_piece [] = bad 0
+comment_piece (c ∷ cs) = if c == slash then gap (2 + run_len (λ d. not (is_line_feed d)) cs) else bad 0
 
 -- no digit follows a `0` that begins a number, and a number is below the limit
 abbrev pub number_piece : List ℕ → Piece
 number_piece cs =
     let n = run_len is_digit cs in
-    if (starts_with nat_eq cs (codes "0") && not (n == 1)) || nat_le literal_limit (digits_value 10 (take n cs)) then bad else token n
+    if starts_with nat_eq cs (codes "0") && not (n == 1) then bad 1
+    else if nat_le literal_limit (digits_value 10 (take n cs)) then wide
+    else token n
 
 -- the first symbol of the list that begins the characters
 abbrev pub symbol_piece : List Word → List ℕ → Piece
-symbol_piece [] cs = bad
+symbol_piece [] cs = bad 0
 symbol_piece (s ∷ ss) cs = if starts_with nat_eq cs s then token (length s) else symbol_piece ss cs
 
 abbrev pub piece_at : List ℕ → Piece
-piece_at [] = bad
+piece_at [] = bad 0
 piece_at (c ∷ cs) =
     if is_blank c then gap 1
     else if c == slash then comment_piece cs
@@ -82,21 +86,35 @@ piece_at (c ∷ cs) =
 
 -- ---- tokens
 
-abbrev pub with_piece : Piece → ℕ → List ℕ → (ℕ → Option (List Token)) → Option (List Token)
+-- why a text has no tokens, and the byte: a character that begins nothing, or the first byte of a number that is too great
+pub data LexicalFault : Type 0 where
+  bad_char : ℕ → LexicalFault
+  wide_literal : ℕ → LexicalFault
+
+abbrev pub after_token : Token → Result (List Token) LexicalFault → Result (List Token) LexicalFault
+after_token t (Ok ts) = Ok (t ∷ ts)
+after_token t (Err f) = Err f
+
+-- What a piece at the byte `at` gives, and what comes behind it. Only a `0`, which is one byte, comes before a bad character.
+abbrev pub with_piece : Piece → ℕ → List ℕ → (ℕ → Result (List Token) LexicalFault) → Result (List Token) LexicalFault
 with_piece (gap n) at cs rest = rest n
-with_piece (token n) at cs rest = option_map (λ ts. record { text = encode_utf8_all (take n cs); at = at } ∷ ts) (rest n)
-with_piece bad at cs rest = None
+with_piece (token n) at cs rest = after_token (record { text = encode_utf8_all (take n cs); at = at }) (rest n)
+with_piece (bad n) at cs rest = Err (bad_char (at + n))
+with_piece wide at cs rest = Err (wide_literal at)
 
--- The tokens from here on, of which the first `passed` characters belong to the piece before. The first character stands at the byte `at`.
-unfoldable pub tokens_from : ℕ → ℕ → List ℕ → Option (List Token)
-tokens_from passed at [] = Some []
-tokens_from passed at (c ∷ cs) =
-    if passed == 0 then with_piece (piece_at (c ∷ cs)) at (c ∷ cs) (λ n. tokens_from (n - 1) (at + length (encode_utf8 c)) cs)
-    else tokens_from (passed - 1) (at + length (encode_utf8 c)) cs
+-- The tokens from here on or the first fault, where the first `passed` characters belong to the piece before. The first character stands at the byte `at`.
+unfoldable pub lexed_from : ℕ → ℕ → List ℕ → Result (List Token) LexicalFault
+lexed_from passed at [] = Ok []
+lexed_from passed at (c ∷ cs) =
+    if passed == 0 then with_piece (piece_at (c ∷ cs)) at (c ∷ cs) (λ n. lexed_from (n - 1) (at + length (encode_utf8 c)) cs)
+    else lexed_from (passed - 1) (at + length (encode_utf8 c)) cs
 
--- the tokens of a text in UTF-8, where each of its characters belongs to one or separates them
+-- what a text in UTF-8 is cut into: its tokens, where each of its characters belongs to one or separates them, or its first fault
+abbrev pub lexed : List ℕ → Result (List Token) LexicalFault
+lexed text = lexed_from 0 0 (chars text)
+
 abbrev pub tokens : List ℕ → Option (List Token)
-tokens text = tokens_from 0 0 (chars text)
+tokens text = result_ok (lexed text)
 
 -- ---- kinds of tokens, by their texts
 

@@ -39,7 +39,7 @@ comment-is (d ∷ cs) starts =
     let sized : length (take_while stays (slash ∷ d ∷ cs)) ≡ 2 + run_len stays cs = ap (λ x. length (take_while stays (slash ∷ x ∷ cs))) (sym same) ∙ ap length (take_while-cons stays slash (slash ∷ cs) ∙ ap (λ l. slash ∷ l) (take_while-cons stays slash cs)) ∙ omega arith in
     cond-true (d == slash) _ _ (eq-eqb d slash (sym same)) ∙ ap gap (sym sized)
 
-comment-not : (cs : List ℕ) → starts_with nat_eq (slash ∷ cs) (codes "//") ≡ false → comment_piece cs ≡ bad
+comment-not : (cs : List ℕ) → starts_with nat_eq (slash ∷ cs) (codes "//") ≡ false → comment_piece cs ≡ bad 0
 comment-not [] starts = refl
 comment-not (d ∷ cs) starts =
     ⊎_elim
@@ -63,5 +63,5 @@ module _ (text : List ℕ) (utf8 : IsUtf8 text) (begins : BeginsWith text slash)
         is = is ∙ ap gap counted;
       }
 
-  pub comment-bad : FindsTextPrefix (codes "//") text None → comment_piece after ≡ bad
+  pub comment-bad : FindsTextPrefix (codes "//") text None → comment_piece after ≡ bad 0
   comment-bad lacks = comment-not after (ap (λ l. starts_with nat_eq l (codes "//")) (sym begins) ∙ starts-not (codes "//") text comment-ascii utf8 lacks)

@@ -1,6 +1,9 @@
+pub mod Spellings
 pub mod Cuts
+pub mod Faults
+pub mod SymbolPieces
 pub mod Numbers
 pub mod Walk
-pub mod Symbols
 pub mod Names
 pub mod Comments
+pub mod Kinding

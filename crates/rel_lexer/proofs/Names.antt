@@ -1,5 +1,5 @@
--- A name, reserved or not.
-use Rattle.std.proofs.Common.{◌≡◌, ℕ, ◌+◌, true, false, not, cond, List, [], ◌∷◌, length, take, drop, ⊎_elim, ap, ◌∙◌, arith}
+-- A name or a reserved word.
+use Rattle.std.proofs.Common.{◌≡◌, ℕ, ◌+◌, true, not, Some, None, cond, List, [], ◌∷◌, length, take, drop, ⊎_elim, ap, ◌∙◌, arith}
 use Rattle.std.specs.Prelude.{take_while, ◌==◌}
 use Rattle.std.specs.List.{list_all}
 use Rattle.std.specs.Str.{chars}
@@ -10,7 +10,10 @@ use Rattle.rel_lang.specs.Tokens.{begins_name, continues_name, run_len, has_name
 use Rattle.rel_lang.specs.Tokens.Piece.{token}
 use Rattle.rel_lexer.specs.declared.Kind.{Kind}
 use Rattle.rel_lexer.specs.declared.Kind.TheVariants.{Word, Name}
+use Rattle.rel_lexer.specs.declared.keywords.Keyword.{Keyword}
+use Rattle.rel_lexer.specs.Words.{keyword_of}
 use Rattle.rel_lexer.specs.Tokens.{IsOfKind}
+use Rattle.rel_lexer.proofs.Spellings.{is_found, keyword_is, reserved_is_found}
 use Rattle.rel_lexer.specs.Pieces.{BeginsWith, IsRun, IsToken, chars_in}
 use Rattle.rel_lexer.proofs.Cuts.{some-from_chars, take_while-all}
 
@@ -28,10 +31,10 @@ module _ (text : List ℕ) (c n : ℕ) (begins : BeginsWith text c) (passes : be
       run.spells ∙ ap (take_while continues_name) begins ∙ take_while-cons continues_name c after
       ∙ ap (λ b. cond b (c ∷ take_while continues_name after) []) (begins-continues c passes)
 
-  formed : has_name_form (chars (take n text)) ≡ true
+  pub formed : has_name_form (chars (take n text)) ≡ true
   formed = ap has_name_form spelled ∙ and_from (begins_name c) (list_all continues_name (take_while continues_name after)) passes (take_while-all continues_name after)
 
-  name-token : (kind : Kind) → IsOfKind kind (take n text) → IsToken (token (1 + run_len continues_name after)) text kind n
+  pub name-token : (kind : Kind) → IsOfKind kind (take n text) → IsToken (token (1 + run_len continues_name after)) text kind n
   name-token kind of_kind =
       let counted : 1 + run_len continues_name after ≡ chars_in n text = omega (arith, ap length spelled) in
       record {
@@ -41,8 +44,9 @@ module _ (text : List ℕ) (c n : ℕ) (begins : BeginsWith text c) (passes : be
         of_kind = of_kind;
       }
 
-  pub reserved-token : is_reserved (take n text) ≡ true → IsToken (token (1 + run_len continues_name after)) text Word n
-  reserved-token reserved = name-token Word reserved
+-- a text with the form of a name is a reserved word or a name
+pub word-kind : (text : List ℕ) (k : Keyword) → keyword_of text ≡ Some k → IsOfKind (Word k) text
+word-kind text k found = keyword_is text k found
 
-  pub other-token : is_reserved (take n text) ≡ false → IsToken (token (1 + run_len continues_name after)) text Name n
-  other-token other = name-token Name (and_from (has_name_form (chars (take n text))) (not (is_reserved (take n text))) formed (ap not other))
+pub name-kind : (text : List ℕ) → has_name_form (chars text) ≡ true → keyword_of text ≡ None → IsOfKind Name text
+name-kind text form none = and_from (has_name_form (chars text)) (not (is_reserved text)) form (ap not (reserved_is_found text ∙ ap is_found none))

@@ -1,5 +1,5 @@
 -- What the digits of a literal say, and that a number without a leading zero is written so.
-use Rattle.std.proofs.Common.{◌≡◌, ℕ, ◌+◌, ◌*◌, ◌/◌, ◌%◌, ◌^◌, ◌<◌, ◌≤◌, Bool, true, false, not, cond, leb, ◌&&◌, ◌||◌, ◌⊎◌, ⊎_elim, inl, inr, subst, IsUtf8, List, [], ◌∷◌, ◌++◌, length, length-take-le, get_or, take, drop, refl, sym, ap, ◌∙◌, append_assoc, append-nil, arith}
+use Rattle.std.proofs.Common.{◌≡◌, ℕ, ◌+◌, ◌*◌, ◌/◌, ◌%◌, ◌^◌, ◌<◌, ◌≤◌, Bool, true, false, not, cond, leb, ◌&&◌, ◌⊎◌, ⊎_elim, inl, inr, subst, IsUtf8, List, [], ◌∷◌, ◌++◌, length, length-take-le, get_or, take, drop, refl, sym, ap, ◌∙◌, append_assoc, append-nil, arith}
 use Rattle.std.specs.Fmt.{decimal}
 use Rattle.std.specs.Char.{digit_value}
 use Rattle.std.specs.List.{list_all}
@@ -17,9 +17,9 @@ use Rattle.std.specs.Str.Parse.{ParsesSigned}
 use Rattle.std.proofs.lemmas.Str.{IsUtf8-take, encodes-chars, encodes-IsAscii}
 use Rattle.std.proofs.lemmas.Str.Parse.{parse_signed_digits}
 use Rattle.std.proofs.lemmas.List.Sums.{take_while-cons}
-use Rattle.std.proofs.lemmas.Bool.{eq-eqb, ne_eqb, le-leb, lt-leb, or_left, or_right, or_from, and_from, and_left, and_right, cond-true, cond-false, cases_lt, cases_eq}
+use Rattle.std.proofs.lemmas.Bool.{eq-eqb, ne_eqb, le-leb, lt-leb, and_from, and_left, and_right, cond-true, cond-false, cases_lt, cases_eq}
 use Rattle.rel_lang.specs.Tokens.{Piece, number_piece, run_len, literal_limit, is_digit, is_number}
-use Rattle.rel_lang.specs.Tokens.Piece.{token, bad}
+use Rattle.rel_lang.specs.Tokens.Piece.{token, bad, wide}
 use Rattle.rel_lexer.specs.declared.Kind.TheVariants.{Number}
 use Rattle.rel_lexer.specs.Tokens.{IsOfKind}
 use Rattle.rel_lexer.specs.Pieces.{BeginsWith, IsRun, IsToken}
@@ -73,7 +73,7 @@ digits-ascii ds passes = IsAscii-from_digits ds (digits-all ds passes)
 
 -- what a run of k digits of this value is, by whether it begins with a zero
 abbrev number_of : Bool → ℕ → ℕ → Piece
-number_of zero_first k value = cond ((zero_first && not (k == 1)) || leb literal_limit value) bad (token k)
+number_of zero_first k value = cond (zero_first && not (k == 1)) (bad 1) (cond (leb literal_limit value) wide (token k))
 
 by_parts : (cs : List ℕ) → number_piece cs ≡ number_of (starts_with nat_eq cs (codes "0")) (run_len is_digit cs) (digits_value 10 (take (run_len is_digit cs) cs))
 by_parts cs = refl
@@ -117,16 +117,23 @@ module _ (text : List ℕ) (c n : ℕ) (utf8 : IsUtf8 text) (begins : BeginsWith
   front-size = length-take-le n text run.boundary.0
 
   -- a digit behind the number 0
-  pub number-zero : c ≡ 48 → (n ≡ 1 → ⊥) → number_piece (chars text) ≡ bad
+  pub number-zero : c ≡ 48 → (n ≡ 1 → ⊥) → number_piece (chars text) ≡ bad 1
   number-zero zero_first longer =
-      piece-is ∙ cond-true _ bad (token n) (or_left ((48 == c) && not (n == 1)) (leb literal_limit (digits_value 10 front)) (and_from (48 == c) (not (n == 1)) (eq-eqb 48 c (sym zero_first)) (ap not (ne_eqb n 1 longer))))
+      piece-is ∙ cond-true _ (bad 1) _ (and_from (48 == c) (not (n == 1)) (eq-eqb 48 c (sym zero_first)) (ap not (ne_eqb n 1 longer)))
 
-  pub number-wide : {E : Type 0} (e : E) → ParsesSigned {E = E} w128 10 front (Err e) → number_piece (chars text) ≡ bad
-  number-wide {E} e parsed =
+  no_zero : (c ≡ 48 → n ≡ 1) → number_piece (chars text) ≡ cond (leb literal_limit (digits_value 10 front)) wide (token n)
+  no_zero alone = piece-is ∙ cond-false _ (bad 1) _ (tested (cases_eq c 48))
+    where
+      tested : (c ≡ 48) ⊎ (c ≡ 48 → ⊥) → ((48 == c) && not (n == 1)) ≡ false
+      tested (inl is) = and_right (48 == c) (not (n == 1)) (ap not (eq-eqb n 1 (alone is)))
+      tested (inr not_is) = and_left (48 == c) (not (n == 1)) (ne_eqb 48 c (λ e. not_is (sym e)))
+
+  pub number-wide : {E : Type 0} (e : E) → ParsesSigned {E = E} w128 10 front (Err e) → (c ≡ 48 → n ≡ 1) → number_piece (chars text) ≡ wide
+  number-wide {E} e parsed alone =
       let answer : Result ℤ E = Err e in
       let not_small = parse_signed_digits own w128 front answer parsed front-digits in
-      let wide : literal_limit ≤ digits_value 10 front = ⊎_elim (λ below. absurd (not_small (omega (arith, front-size, some), below))) (λ above. above) (cases_lt (digits_value 10 front) literal_limit) in
-      piece-is ∙ cond-true _ bad (token n) (or_right ((48 == c) && not (n == 1)) (leb literal_limit (digits_value 10 front)) (le-leb literal_limit (digits_value 10 front) wide))
+      let above : literal_limit ≤ digits_value 10 front = ⊎_elim (λ below. absurd (not_small (omega (arith, front-size, some), below))) (λ above. above) (cases_lt (digits_value 10 front) literal_limit) in
+      no_zero alone ∙ cond-true _ wide _ (le-leb literal_limit (digits_value 10 front) above)
 
   pub number-token : (E : Type 0) (v : ℤ) → ParsesSigned {E = E} w128 10 front (Ok v) → (c ≡ 48 → n ≡ 1) → IsToken (number_piece (chars text)) text (Number v) n
   number-token E v parsed alone =
@@ -140,10 +147,6 @@ module _ (text : List ℕ) (c n : ℕ) (utf8 : IsUtf8 text) (begins : BeginsWith
       record {
         some = some;
         boundary = run.boundary;
-        is = piece-is ∙ cond-false _ bad (token n) (or_from ((48 == c) && not (n == 1)) (leb literal_limit value) (no_zero (cases_eq c 48)) (lt-leb literal_limit value small)) ∙ ap token (sym (ap length run.spells ∙ size));
+        is = no_zero alone ∙ cond-false _ wide _ (lt-leb literal_limit value small) ∙ ap token (sym (ap length run.spells ∙ size));
         of_kind = subst (λ z. IsOfKind (Number z) front) (sym is) (sym written, small, number);
       }
-    where
-      no_zero : (c ≡ 48) ⊎ (c ≡ 48 → ⊥) → ((48 == c) && not (n == 1)) ≡ false
-      no_zero (inl is) = and_right (48 == c) (not (n == 1)) (ap not (eq-eqb n 1 (alone is)))
-      no_zero (inr not_is) = and_left (48 == c) (not (n == 1)) (ne_eqb 48 c (λ e. not_is (sym e)))

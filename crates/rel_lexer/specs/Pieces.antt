@@ -1,12 +1,13 @@
 -- What begins a text, by the number of its bytes.
-use Rattle.std.specs.Prelude.{◌≡◌, ℕ, ◌<◌, Bool, List, ◌∷◌, length, take, drop, take_while, codes, Result, Ok, Err}
+use Rattle.std.specs.Prelude.{◌≡◌, ℕ, ◌-◌, ◌<◌, ◌≤◌, Bool, List, ◌∷◌, length, take, drop, take_while, Result, Ok, Err}
 use Rattle.std.specs.Str.{chars, IsCharBoundary}
 use Rattle.rel_lang.specs.Tokens.{Piece}
-use Rattle.rel_lang.specs.Tokens.Piece.{gap, token, bad}
+use Rattle.rel_lang.specs.Tokens.Piece.{gap, token, bad, wide}
 use Rattle.rel_lexer.specs.declared.Kind.{Kind}
 use Rattle.rel_lexer.specs.declared.parts.Part.{Part}
 use Rattle.rel_lexer.specs.declared.parts.Part.TheVariants.{Gap, Token}
 use Rattle.rel_lexer.specs.declared.LexFault.{LexFault}
+use Rattle.rel_lexer.specs.declared.LexFault.TheVariants.{BadChar, WideLiteral, Memory}
 use Rattle.rel_lexer.specs.Tokens.{IsOfKind}
 
 -- the text begins with this character
@@ -34,17 +35,19 @@ pub record IsToken (piece : Piece) (text : List ℕ) (kind : Kind) (n : ℕ) : T
   pub is : piece ≡ token (chars_in n text)
   pub of_kind : IsOfKind kind (take n text)
 
--- the code's answer is the piece that begins the text
-abbrev pub IsPart : Piece → List ℕ → Result Part LexFault → Type 0
-IsPart piece text (Ok (Gap n)) = IsGap piece text n
-IsPart piece text (Ok (Token kind n)) = IsToken piece text kind n
-IsPart piece text (Err e) = piece ≡ bad
+-- the fault of a piece that begins at the byte `at`
+abbrev pub IsFault : Piece → ℕ → LexFault → Type 0
+IsFault piece at (BadChar byte) = (at ≤ byte) × (piece ≡ bad (byte - at))
+IsFault piece at (WideLiteral byte) = (byte ≡ at) × (piece ≡ wide)
+IsFault piece at Memory = ⊥
+
+-- the code's answer is the piece that begins the text, whose first byte is `at`
+abbrev pub IsPart : Piece → ℕ → List ℕ → Result Part LexFault → Type 0
+IsPart piece at text (Ok (Gap n)) = IsGap piece text n
+IsPart piece at text (Ok (Token kind n)) = IsToken piece text kind n
+IsPart piece at text (Err fault) = IsFault piece at fault
 
 -- its bytes
 abbrev pub part_len : Part → ℕ
 part_len (Gap n) = n
 part_len (Token kind n) = n
-
--- the symbols of one character
-abbrev pub single_symbols : List ℕ
-single_symbols = codes "()[]{};:,.~|+-*=<@"

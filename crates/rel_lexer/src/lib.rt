@@ -1,25 +1,28 @@
 //! Reads a text into its tokens, which borrow it.
 #![tactic(auto)]
 
-ghost use Rattle.std.specs.Prelude.{◌≡◌, ◌^◌, ◌<◌, length, Some, All, IfOk, IfErr};
-ghost use Rattle.rel_lang.specs.Tokens.{tokens};
-ghost use Rattle.rel_lexer.specs.Tokens.{tokens_of, HasKind, MeansNoTokens};
+ghost use Rattle.std.specs.Prelude.{◌≡◌, ◌^◌, ◌<◌, length, Ok, All, AllPairs, IfOk, IfErr};
+ghost use Rattle.rel_lang.specs.Tokens.{lexed};
+ghost use Rattle.rel_lexer.specs.Tokens.{tokens_of, HasKind, IsSlice, IsFirstFault};
 
+mod keywords;
 mod parts;
-mod reserved;
+mod symbols;
 #[cfg(test)]
 mod tests;
 
+pub use keywords::Keyword;
 use parts::{Part, next_part};
 use std::alloc::Global;
+pub use symbols::Symbol;
 
 /// What a token is: a reserved word, another name, a number, or a symbol.
 #[derive(Clone, Copy, Debug, PartialEq, Eq)]
 pub enum Kind {
-    Word,
+    Word(Keyword),
     Name,
     Number(i128),
-    Symbol,
+    Symbol(Symbol),
 }
 
 /// A token, whose text is the slice of the source that begins at the byte `at`.
@@ -39,12 +42,14 @@ pub enum LexFault {
     Memory,
 }
 
-/// The tokens of the text, in order.
+/// The tokens of the text, in order, or its first fault.
 pub fn lex<'a>(alloc: Global, text: &'a str) -> Result<Vec<Token<'a>>, LexFault>
     requires { length text.now < 2 ^ 32 }
-    ensures tokens { IfOk result (λ v. tokens text.now ≡ Some (tokens_of v.items)) }
+    ensures tokens { IfOk result (λ v. lexed text.now ≡ Ok (tokens_of v.items)) }
+    ensures refused { IfErr result (λ e. IsFirstFault text.now e) }
     ensures kinds { IfOk result (λ v. All HasKind v.items) }
-    ensures refused { IfErr result (λ e. MeansNoTokens e text.now) }
+    ensures slices { IfOk result (λ v. All (λ t. IsSlice text.now t) v.items) }
+    ensures rising { IfOk result (λ v. AllPairs (λ t u. t.at < u.at) v.items) }
 {
     let mut tokens = Vec::new(alloc);
     let mut rest = text;

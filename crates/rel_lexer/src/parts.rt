@@ -1,14 +1,15 @@
 //! What begins a text: a blank or a comment, which only separate, or a token.
 
-ghost use Rattle.std.specs.Prelude.{◌≡◌, ◌^◌, ◌<◌, ◌+◌, ◌==◌, not, length, drop, IsTrue, IsFalse, Ok};
-ghost use Rattle.std.specs.List.{list_any};
+ghost use Rattle.std.specs.Prelude.{◌≡◌, ◌^◌, ◌<◌, ◌+◌, not, length, drop, IsTrue, Ok};
 ghost use Rattle.std.specs.Str.{chars};
-ghost use Rattle.rel_lang.specs.Tokens.{is_blank, is_digit, is_line_feed, begins_name, continues_name, slash};
+ghost use Rattle.rel_lang.specs.Tokens.{is_blank, is_digit, is_line_feed, begins_name, continues_name, has_name_form, slash};
 ghost use Rattle.rel_lang.specs.Tokens.{run_len, comment_piece, number_piece, symbol_piece, symbols, piece_at};
 ghost use Rattle.rel_lang.specs.Tokens.Piece.{token};
-ghost use Rattle.rel_lexer.specs.Pieces.{BeginsWith, IsRun, IsPart, part_len, single_symbols};
+ghost use Rattle.rel_lexer.specs.Pieces.{BeginsWith, IsRun, IsPart, part_len};
+ghost use Rattle.rel_lexer.specs.Tokens.{IsOfKind};
 
-use crate::reserved::is_reserved;
+use crate::keywords::keyword_of;
+use crate::symbols::symbol_at;
 use crate::{Kind, LexFault};
 use unicode_ident::{is_xid_continue, is_xid_start};
 
@@ -79,7 +80,7 @@ fn first_char(rest: &str) -> char
 /// A comment ends with its line.
 fn comment(rest: &str, at: u32) -> Result<Part, LexFault>
     requires { BeginsWith rest.now slash }
-    ensures { IsPart (comment_piece (drop 1 (chars rest.now))) rest.now result }
+    ensures { IsPart (comment_piece (drop 1 (chars rest.now))) at rest.now result }
 {
     if rest.starts_with("//") {
         Ok(Part::Gap(line_len(rest)))
@@ -88,20 +89,26 @@ fn comment(rest: &str, at: u32) -> Result<Part, LexFault>
     }
 }
 
+/// The kind of a text that has the form of a name.
+fn name_kind(text: &str) -> Kind
+    requires { IsTrue (has_name_form (chars text.now)) }
+    ensures { IsOfKind result text.now }
+{
+    match keyword_of(text) {
+        Some(keyword) => Kind::Word(keyword),
+        None => Kind::Name,
+    }
+}
+
 /// A name begins with `first` and goes on as far as it can.
 fn name(rest: &str, first: char) -> Part
     requires begins { BeginsWith rest.now first }
     requires passes { IsTrue (begins_name first) }
-    ensures { IsPart (token (1 + run_len continues_name (drop 1 (chars rest.now)))) rest.now (Ok result) }
+    ensures { IsPart (token (1 + run_len continues_name (drop 1 (chars rest.now)))) 0 rest.now (Ok result) }
 {
     let len = name_len(rest);
     let (text, _) = rest.split_at(len);
-    let kind = if is_reserved(text) {
-        Kind::Word
-    } else {
-        Kind::Name
-    };
-    Part::Token(kind, len)
+    Part::Token(name_kind(text), len)
 }
 
 /// A number has no zero before it. It is 0, or begins with another digit.
@@ -109,7 +116,7 @@ fn number(rest: &str, first: char, at: u32) -> Result<Part, LexFault>
     requires begins { BeginsWith rest.now first }
     requires passes { IsTrue (is_digit first) }
     requires places { at + length rest.now < 2 ^ 32 }
-    ensures { IsPart (number_piece (chars rest.now)) rest.now result }
+    ensures { IsPart (number_piece (chars rest.now)) at rest.now result }
 {
     let len = digits_len(rest);
     if first == '0' && len != 1 {
@@ -122,48 +129,13 @@ fn number(rest: &str, first: char, at: u32) -> Result<Part, LexFault>
     }
 }
 
-fn is_symbol(ch: char) -> bool
-    ensures { result ≡ list_any (λ k. k == ch) single_symbols }
-{
-    matches!(
-        ch,
-        '(' | ')'
-            | '['
-            | ']'
-            | '{'
-            | '}'
-            | ';'
-            | ':'
-            | ','
-            | '.'
-            | '~'
-            | '|'
-            | '+'
-            | '-'
-            | '*'
-            | '='
-            | '<'
-            | '@'
-    )
-}
-
 /// The longest symbol counts.
-fn symbol(rest: &str, first: char, at: u32) -> Result<Part, LexFault>
-    requires begins { BeginsWith rest.now first }
-    requires no_name { IsFalse (begins_name first) }
-    requires no_digit { IsFalse (is_digit first) }
-    ensures { IsPart (symbol_piece symbols (chars rest.now)) rest.now result }
+fn symbol(rest: &str, at: u32) -> Result<Part, LexFault>
+    ensures { IsPart (symbol_piece symbols (chars rest.now)) at rest.now result }
 {
-    if rest.starts_with("=:=") {
-        Ok(Part::Token(Kind::Symbol, 3))
-    } else if rest.starts_with(":=") {
-        Ok(Part::Token(Kind::Symbol, 2))
-    } else if rest.starts_with("<=") {
-        Ok(Part::Token(Kind::Symbol, 2))
-    } else if is_symbol(first) {
-        Ok(Part::Token(Kind::Symbol, 1))
-    } else {
-        Err(LexFault::BadChar(at))
+    match symbol_at(rest.as_bytes()) {
+        Some(symbol) => Ok(Part::Token(Kind::Symbol(symbol), symbol.text().len())),
+        None => Err(LexFault::BadChar(at)),
     }
 }
 
@@ -171,7 +143,7 @@ fn symbol(rest: &str, first: char, at: u32) -> Result<Part, LexFault>
 pub fn next_part(rest: &str, at: u32) -> Result<Part, LexFault>
     requires some { 0 < length rest.now }
     requires places { at + length rest.now < 2 ^ 32 }
-    ensures { IsPart (piece_at (chars rest.now)) rest.now result }
+    ensures { IsPart (piece_at (chars rest.now)) at rest.now result }
 {
     let first = first_char(rest);
     if is_blank(first) {
@@ -183,6 +155,6 @@ pub fn next_part(rest: &str, at: u32) -> Result<Part, LexFault>
     } else if first.is_ascii_digit() {
         number(rest, first, at)
     } else {
-        symbol(rest, first, at)
+        symbol(rest, at)
     }
 }

@@ -3,12 +3,13 @@
 use super::*;
 use std::test::Fail;
 
+/// A kind as one letter: a reserved word, a name, a number (digits) or a symbol.
 fn letter(kind: Kind) -> char {
     match kind {
-        Kind::Word => 'w',
+        Kind::Word(_) => 'w',
         Kind::Name => 'n',
         Kind::Number(_) => 'd',
-        Kind::Symbol => 's',
+        Kind::Symbol(_) => 's',
     }
 }
 
@@ -27,7 +28,6 @@ fn gives(alloc: Global, text: &str, expected: &[(char, &str, u32)]) -> bool {
     }
     same
 }
-
 /// Why the text is refused, if it is.
 fn fault(alloc: Global, text: &str) -> Option<LexFault> {
     if text.len() > 4096 {

@@ -1,4 +1,4 @@
--- Each part of the text adds its token, and a place where nothing begins leaves the text without tokens.
+-- Each part of the text adds its token, and a place where nothing begins is the text's first fault.
 use Rattle.std.proofs.Common.{◌≡◌, ◌+◌, length, not, take, drop, sym, ap, ◌∙◌, subst, arith}
 use Rattle.std.specs.Prelude.{Ok, [], ◌∷◌, ◌++◌, refl}
 use Rattle.std.specs.Str.{chars}
@@ -7,7 +7,7 @@ use Rattle.rel_lexer.specs.declared.Token.{Token}
 use Rattle.rel_lexer.specs.Pieces.{IsPart, part_len}
 use Rattle.std.proofs.ResultArms.{chosen}
 use Rattle.std.proofs.lemmas.Bool.{eqb-true, eqb-false}
-use Rattle.rel_lexer.proofs.Walk.{refused, finished, no_tokens, Walked, walked-past, walked-token}
+use Rattle.rel_lexer.proofs.Walk.{refused, finished, Walked, walked-past, walked-token}
 use Rattle.rel_lexer.proofs.lex.Goals as goal
 use Rattle.rel_lexer.proofs.lex.Goals.{in-Token+else-is_err, in_default}
 
@@ -15,7 +15,7 @@ pub returns-in-Err-clause-refused : goal.returns-in-Err-clause-refused
 returns-in-Err-clause-refused c =
     let loop = c.loop-rest in
     let some : length loop.rest.now ≡ 0 → ⊥ = eqb-false (length loop.rest.now) 0 (sym c.loop-rest-test.ensures) in
-    no_tokens c.in-Err.fault c.args.text.now (refused c.args.text.now loop.tokens.items loop.rest.now loop.at loop.invariant.utf8 loop.invariant.so_far (omega arith) c.in-Err.ensures)
+    refused c.args.text.now loop.tokens.items loop.rest.now loop.at loop.invariant.utf8 loop.invariant.so_far (omega arith) c.in-Err.fault c.in-Err.ensures
 
 pub returns-clause-tokens : goal.returns-clause-tokens
 returns-clause-tokens c =
@@ -37,7 +37,7 @@ loop-rest-preserved c =
           (let kind = w.in-Token.kind in
           let n = w.in-Token.field-1 in
           let len : part_len c.in-Ok.part ≡ n = ap part_len w.in-Token.is in
-          let part = subst (λ p. IsPart (piece_at (chars rest)) rest (Ok p)) w.in-Token.is c.in-Ok.ensures in
+          let part = subst (λ p. IsPart (piece_at (chars rest)) loop.at rest (Ok p)) w.in-Token.is c.in-Ok.ensures in
           let pushed = chosen _ _ _ _ w.push.ensures.items (w.is_err.ensures.negation ∙ ap not w.if-is_err.false) in
           let t : Token = record { kind = kind; text = c.split_at.result.0; at = loop.at } in
           let walked = walked-token text loop.tokens.items rest loop.at loop.invariant kind n t part refl (parts.front ∙ ap (λ k. take k rest) (c.len.ensures ∙ len)) refl after (after_is ∙ ap (λ k. drop k rest) len) in

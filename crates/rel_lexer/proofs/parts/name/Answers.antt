@@ -1,11 +1,13 @@
--- The kind of a name is that of its text.
-use Rattle.std.proofs.Common.{sym, ap, ◌∙◌}
-use Rattle.rel_lang.specs.Tokens.{is_reserved}
-use Rattle.rel_lexer.proofs.Names.{reserved-token, other-token}
+-- The text of a name has its form.
+use Rattle.std.proofs.Common.{ap, ◌∙◌, subst}
+use Rattle.std.specs.Str.{chars}
+use Rattle.rel_lang.specs.Tokens.{has_name_form}
+use Rattle.rel_lexer.specs.Tokens.{IsOfKind}
+use Rattle.rel_lexer.proofs.Names.{formed, name-token}
 use Rattle.rel_lexer.proofs.parts.name.Goals as goal
 
-pub returns-then-is_reserved : goal.returns-then-is_reserved
-returns-then-is_reserved c = reserved-token c.args.rest.now c.args.first c.name_len-len.result c.requires.begins c.requires.passes c.name_len-len.ensures (ap is_reserved (sym c.split_at.ensures.front) ∙ sym c.is_reserved.ensures ∙ c.if-is_reserved.true)
+pub name_kind-requires : goal.name_kind-requires
+name_kind-requires c = ap (λ l. has_name_form (chars l)) c.split_at.ensures.front ∙ formed c.args.rest.now c.args.first c.name_len-len.result c.requires.begins c.requires.passes c.name_len-len.ensures
 
-pub returns-else-is_reserved : goal.returns-else-is_reserved
-returns-else-is_reserved c = other-token c.args.rest.now c.args.first c.name_len-len.result c.requires.begins c.requires.passes c.name_len-len.ensures (ap is_reserved (sym c.split_at.ensures.front) ∙ sym c.is_reserved.ensures ∙ c.if-is_reserved.false)
+pub returns : goal.returns
+returns c = name-token c.args.rest.now c.args.first c.name_len-len.result c.requires.begins c.requires.passes c.name_len-len.ensures c.name_kind.result (subst (IsOfKind c.name_kind.result) c.split_at.ensures.front c.name_kind.ensures)

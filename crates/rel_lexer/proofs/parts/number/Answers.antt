@@ -1,6 +1,7 @@
 -- What the run of digits is, by what the parser of integers answers.
-use Rattle.std.proofs.Common.{◌≡◌, sym, subst, arith}
+use Rattle.std.proofs.Common.{◌≡◌, refl, sym, subst, arith}
 use Rattle.rel_lexer.proofs.Numbers.{number-zero, number-wide, number-token, some}
+use Rattle.rel_lexer.proofs.Faults.{bad-next}
 use mir.Syntax.{w128}
 use Rattle.std.specs.Prelude.{Ok, Err}
 use Rattle.std.specs.Str.{chars}
@@ -21,12 +22,13 @@ overflow_add-result c =
     omega (arith, run.boundary.0, positive, c.requires.places)
 
 pub returns-then-len-ne1 : goal.returns-then-len-ne1
-returns-then-len-ne1 c = number-zero c.args.rest.now c.args.first c.digits_len-len.result c.utf8.rest c.requires.begins c.requires.passes c.digits_len-len.ensures c.if-first-eq48.true c.if-len-ne1.true
+returns-then-len-ne1 c = bad-next _ c.args.at (number-zero c.args.rest.now c.args.first c.digits_len-len.result c.utf8.rest c.requires.begins c.requires.passes c.digits_len-len.ensures c.if-first-eq48.true c.if-len-ne1.true)
 
 pub returns-in-Err : goal.returns-in-Err
 returns-in-Err c =
     let parsed = subst (λ t. ParsesSigned w128 10 t (Err c.in-Err.field-0)) c.split_at.ensures.front c.in-Err.ensures.value.0 in
-    number-wide c.args.rest.now c.args.first c.digits_len-len.result c.utf8.rest c.requires.begins c.requires.passes c.digits_len-len.ensures c.in-Err.field-0 parsed
+    let alone : c.args.first ≡ 48 → c.digits_len-len.result ≡ 1 = λ zero. elim c.else-first-eq48.branch [ else-first-eq48-via-then-first-eq48+else-len-ne1 w ↦ w.if-len-ne1.false | else-first-eq48-via-else-first-eq48 w ↦ absurd (w.if-first-eq48.false zero) ] in
+    (refl, number-wide c.args.rest.now c.args.first c.digits_len-len.result c.utf8.rest c.requires.begins c.requires.passes c.digits_len-len.ensures c.in-Err.field-0 parsed alone)
 
 pub returns-in-Ok : goal.returns-in-Ok
 returns-in-Ok c =

@@ -1,19 +1,22 @@
--- Each test is one of the list of symbols.
-use Rattle.std.proofs.Common.{sym, ◌∙◌}
-use Rattle.rel_lexer.proofs.Symbols.{symbol-agrees, symbol-assigns, symbol-at_most, symbol-single, symbol-bad}
+-- The symbol that begins the bytes is the one that begins the characters.
+use Rattle.std.proofs.Common.{◌≡◌, Some, None, length, sym, ap, ◌∙◌, subst}
+use Rattle.std.specs.Str.{chars}
+use Rattle.rel_lang.specs.Tokens.{symbol_piece, symbols}
+use Rattle.rel_lexer.specs.declared.Kind.TheVariants.{Symbol}
+use Rattle.rel_lexer.specs.Words.{symbol_at}
+use Rattle.rel_lexer.specs.Pieces.{IsToken}
+use Rattle.rel_lexer.proofs.Faults.{bad-here}
+use Rattle.rel_lexer.proofs.SymbolPieces.{symbol-none, symbol-token}
 use Rattle.rel_lexer.proofs.parts.symbol.Goals as goal
 
-pub returns-then-starts_with : goal.returns-then-starts_with
-returns-then-starts_with c = symbol-agrees c.args.rest.now c.args.first c.utf8.rest c.requires.begins c.requires.no_name c.requires.no_digit c.if-starts_with.ensures.cases
+pub returns-in-Some : goal.returns-in-Some
+returns-in-Some c =
+    let text = c.args.rest.now in
+    let found : symbol_at text ≡ Some c.in-Some.symbol = ap symbol_at (sym c.as_bytes.ensures.value) ∙ sym c.symbol_at.ensures ∙ c.in-Some.is in
+    subst (λ w. IsToken (symbol_piece symbols (chars text)) text (Symbol c.in-Some.symbol) (length w)) (sym c.text.ensures) (symbol-token text c.utf8.rest c.in-Some.symbol found)
 
-pub returns-then-starts_with-2 : goal.returns-then-starts_with-2
-returns-then-starts_with-2 c = symbol-assigns c.args.rest.now c.args.first c.utf8.rest c.requires.begins c.requires.no_name c.requires.no_digit c.if-starts_with.ensures.cases c.if-starts_with-2.ensures.cases
-
-pub returns-then-starts_with-3 : goal.returns-then-starts_with-3
-returns-then-starts_with-3 c = symbol-at_most c.args.rest.now c.args.first c.utf8.rest c.requires.begins c.requires.no_name c.requires.no_digit c.if-starts_with.ensures.cases c.if-starts_with-2.ensures.cases c.if-starts_with-3.ensures.cases
-
-pub returns-then-is_symbol : goal.returns-then-is_symbol
-returns-then-is_symbol c = symbol-single c.args.rest.now c.args.first c.utf8.rest c.requires.begins c.requires.no_name c.requires.no_digit c.if-starts_with.ensures.cases c.if-starts_with-2.ensures.cases c.if-starts_with-3.ensures.cases (sym c.is_symbol.ensures ∙ c.if-is_symbol.true)
-
-pub returns-else-is_symbol : goal.returns-else-is_symbol
-returns-else-is_symbol c = symbol-bad c.args.rest.now c.args.first c.utf8.rest c.requires.begins c.requires.no_name c.requires.no_digit c.if-starts_with.ensures.cases c.if-starts_with-2.ensures.cases c.if-starts_with-3.ensures.cases (sym c.is_symbol.ensures ∙ c.if-is_symbol.false)
+pub returns-in-None : goal.returns-in-None
+returns-in-None c =
+    let text = c.args.rest.now in
+    let none : symbol_at text ≡ None = ap symbol_at (sym c.as_bytes.ensures.value) ∙ sym c.symbol_at.ensures ∙ c.in-None.is in
+    bad-here _ c.args.at (symbol-none text c.utf8.rest none)
