@@ -5,7 +5,6 @@ use Rattle.std.specs.Str.{bytes_eq}
 use Rattle.std.specs.Fmt.{decimal}
 use Rattle.std.proofs.lemmas.Option.{none-some}
 use Rattle.rel_lang.specs.Syntax.{Exp, var, num, add, sub}
-use Rattle.rel_lang.specs.Tokens.{is_reserved, is_name, is_number}
 use Rattle.rel_lang.specs.Text.{Mark, word, show_exp, IsName, IsPrintableExp}
 use Rattle.rel_lang.specs.Limits.{depth_of}
 use Rattle.rel_lexer.specs.declared.Token.{Token}
@@ -13,7 +12,8 @@ use Rattle.rel_lexer.specs.declared.Kind.{Kind}
 use Rattle.rel_lexer.specs.declared.Kind.TheVariants as kind
 use Rattle.rel_lexer.specs.Tokens.{HasKind, IsOfKind}
 use Rattle.rel_decls.specs.Reading.{Reader, sign_at, join, parts_at, pair_at, exp_by, exp_at}
-use Rattle.rel_decls.proofs.Kinding.{kind_of_name, kind_of_number, kind_of_symbol, low_is_no_name}
+use Rattle.rel_lexer.specs.declared.symbols.Symbol.TheVariants as symbol
+use Rattle.rel_lexer.proofs.Kinding.{kind_of_name, kind_of_number, kind_of_symbol}
 use Rattle.rel_decls.proofs.Laws.{Begins, HaveKinds, bind_some, some_is, pair_is, text_same, same_text, Meets, Meets-then, Meets-weaker, Meets-is, Reads, Always, both_reads, before_reads}
 
 abbrev pub show_sign : Bool → List Mark
@@ -91,20 +91,20 @@ pair_found Fits again reads t ts rest e k open_is read =
 
 exp_by_found : (Fits : Exp → Type 0) (again : Reader Exp) → Reads show_exp IsPrintableExp Fits Always again → (k : Kind) (t : Token) (ts rest : List Token) (e : Exp) → IsOfKind k t.text.now → HaveKinds ts → exp_by k t again ts ≡ Some (e, rest)
     → Begins (show_exp e) (t ∷ ts) rest × IsPrintableExp e
-exp_by_found Fits again reads kind.Word t ts rest e h k read = absurd cc
+exp_by_found Fits again reads (kind.Word j) t ts rest e h k read = absurd cc
 exp_by_found Fits again reads kind.Name t ts rest e h k read =
     subst (λ (y : Exp × List Token). Begins (show_exp y.0) (t ∷ ts) y.1 × IsPrintableExp y.0) (some_is (var t.text.now, ts) (e, rest) read) ((refl, tt, refl), h)
 exp_by_found Fits again reads (kind.Number (pos n)) t ts rest e h k read =
     subst (λ (y : Exp × List Token). Begins (show_exp y.0) (t ∷ ts) y.1 × IsPrintableExp y.0) (some_is (num (pos n), ts) (e, rest) read) ((sym h.0, tt, refl), h.1)
 exp_by_found Fits again reads (kind.Number (negsuc n)) t ts rest e h k read = absurd h
-exp_by_found Fits again reads kind.Symbol t ts rest e h k read =
+exp_by_found Fits again reads (kind.Symbol s) t ts rest e h k read =
     let p = when_open (bytes_eq t.text.now (codes "(")) (pair_at again ts) (e, rest) read in
     pair_found Fits again reads t ts rest e k (sym (same_text t.text.now (codes "(") p.0)) p.1
 
 -- ---- what is spelled so is read
 
-open_kind : (t : Token) → HasKind t → codes "(" ≡ t.text.now → t.kind ≡ kind.Symbol
-open_kind t h e = kind_of_symbol t.kind t.text.now h (subst (λ w. is_reserved w ≡ false) e refl) (subst (λ w. is_name w ≡ false) e (low_is_no_name 40 [] (omega arith))) (subst (λ w. is_number w ≡ false) e refl)
+open_kind : (t : Token) → HasKind t → codes "(" ≡ t.text.now → t.kind ≡ kind.Symbol symbol.OpenParenthesis
+open_kind t h e = kind_of_symbol t.text.now t.kind symbol.OpenParenthesis h (sym e)
 
 pair_back : (Fits : Exp → Type 0) (again : Reader Exp) → Reads show_exp IsPrintableExp Fits Always again → (s : Bool) (l r : Exp) (t : Token) (ts rest : List Token) (Less : Type 0) → (Less → Fits l) → (Less → Fits r) → HasKind t → HaveKinds ts
     → codes "(" ≡ t.text.now → Begins (show_parts (l, (s, r))) ts rest → IsPrintableExp l → IsPrintableExp r → Meets (exp_by t.kind t again ts) (join s l r, rest) Less
@@ -115,11 +115,11 @@ pair_back Fits again reads s l r t ts rest Less fl fr h k open_is b pl pr =
 
 name_meets : (t : Token) (x : List ℕ) (again : Reader Exp) (ts rest : List Token) (Less : Type 0) → HasKind t → x ≡ t.text.now → ts ≡ rest → IsName x → Meets (exp_by t.kind t again ts) (var x, rest) Less
 name_meets t x again ts rest Less h e f i =
-    rw (kind_of_name t.kind t.text.now h (subst IsName e i)) (pair_is (var t.text.now) (var x) ts rest (ap var (sym e)) f)
+    rw (kind_of_name t.text.now t.kind h (subst IsName e i)) (pair_is (var t.text.now) (var x) ts rest (ap var (sym e)) f)
 
 number_meets : (t : Token) (n : ℕ) (again : Reader Exp) (ts rest : List Token) (Less : Type 0) → HasKind t → decimal n ≡ t.text.now → ts ≡ rest → n < 2 ^ 127 → Meets (exp_by t.kind t again ts) (num (pos n), rest) Less
 number_meets t n again ts rest Less h e f lt =
-    rw (kind_of_number t.kind t.text.now n h (sym e) lt) (ap (λ (us : List Token). (num (pos n), us)) f)
+    rw (kind_of_number t.text.now t.kind n h (sym e) lt) (ap (λ (us : List Token). (num (pos n), us)) f)
 
 some_depth : (e : Exp) → depth_of e ≤ 0 → ⊥
 some_depth (var x) h = omega arith

@@ -9,7 +9,8 @@ use Rattle.rel_lexer.specs.declared.Kind.{Kind}
 use Rattle.rel_lexer.specs.declared.Kind.TheVariants as kind
 use Rattle.rel_lexer.specs.Tokens.{HasKind}
 use Rattle.rel_decls.specs.Reading.{◌>>=◌, Reader, expect_at, means, made, both, after, before, placed, name_at, is_name_kind}
-use Rattle.rel_decls.proofs.Kinding.{name_is, kind_of_name}
+use Rattle.rel_lexer.proofs.Kinding.{kind_of_name}
+use Rattle.rel_decls.proofs.Kinding.{name_is}
 
 -- ---- what the first tokens spell
 
@@ -229,10 +230,10 @@ placed_reads show Fine Fits Stops r reads some = record { found = placed_found s
 -- ---- names
 
 name_kind : (k : Kind) → is_name_kind k ≡ true → k ≡ kind.Name
-name_kind kind.Word e = absurd cc
+name_kind (kind.Word j) e = absurd cc
 name_kind kind.Name e = refl
 name_kind (kind.Number n) e = absurd cc
-name_kind kind.Symbol e = absurd cc
+name_kind (kind.Symbol s) e = absurd cc
 
 pub pair_is : {A B : Type 0} (a b : A) (x y : B) → a ≡ b → x ≡ y → ◌≡◌ {A = A × B} (a, x) (b, y)
 pair_is a b x y e f = cc
@@ -246,7 +247,7 @@ name_found (t ∷ ts) rest x k e =
 name_back : (ts rest : List Token) (x : Word) → HaveKinds ts → Begins (word x ∷ []) ts rest → IsName x → Meets (name_at ts) (x, rest) Unit
 name_back [] rest x k b h = absurd b
 name_back (t ∷ ts) rest x k b h =
-    let e : t.kind ≡ kind.Name = kind_of_name t.kind t.text.now k.0 (subst IsName b.0 h) in
+    let e : t.kind ≡ kind.Name = kind_of_name t.text.now t.kind k.0 (subst IsName b.0 h) in
     Meets-is (name_at (t ∷ ts)) (x, rest) Unit (rw e (ap (λ (y : Word × List Token). Some y) (pair_is t.text.now x ts rest (sym b.0) b.2)))
 
 pub name_reads : Reads (λ x. word x ∷ []) IsName Always Always name_at

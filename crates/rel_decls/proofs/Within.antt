@@ -105,10 +105,10 @@ pair_yields n again one =
     made_yields (parts_at again) (λ p. join p.1.0 p.0 p.1.1) _ (IsDeep (suc n)) all (λ p h. join_deep n p.1.0 p.0 p.1.1 h.0 h.1.1)
 
 exp_by_yields : (n : ℕ) (again : Reader Exp) → Yields again (IsDeep n) → (k : Kind) (t : Token) (ts rest : List Token) (e : Exp) → exp_by k t again ts ≡ Some (e, rest) → depth_of e ≤ suc n
-exp_by_yields n again one kind.Word t ts rest e read = absurd (none-some (e, rest) read)
+exp_by_yields n again one (kind.Word j) t ts rest e read = absurd (none-some (e, rest) read)
 exp_by_yields n again one kind.Name t ts rest e read = has (IsDeep (suc n)) (var t.text.now) e ts rest read (omega arith)
 exp_by_yields n again one (kind.Number m) t ts rest e read = has (IsDeep (suc n)) (num m) e ts rest read (omega arith)
-exp_by_yields n again one kind.Symbol t ts rest e read =
+exp_by_yields n again one (kind.Symbol s) t ts rest e read =
     elim (cond_cases (bytes_eq t.text.now (codes "(")) (pair_at again ts) None (e, rest) read) [
       | inl p ↦ pair_yields n again one ts rest e p.1
       | inr p ↦ absurd (none-some (e, rest) p.1)

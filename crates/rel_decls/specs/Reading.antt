@@ -44,10 +44,10 @@ is_more [] = false
 is_more (t ∷ ts) = true
 
 abbrev pub is_name_kind : Kind → Bool
-is_name_kind kind.Word = false
+is_name_kind (kind.Word k) = false
 is_name_kind kind.Name = true
 is_name_kind (kind.Number n) = false
-is_name_kind kind.Symbol = false
+is_name_kind (kind.Symbol s) = false
 
 -- the byte where the tokens begin
 abbrev pub place_at : List Token → Option ℕ
@@ -120,10 +120,10 @@ abbrev pub pair_at : Reader Exp → Reader Exp
 pair_at again = made (λ p. join p.1.0 p.0 p.1.1) (parts_at again)
 
 abbrev pub exp_by : Kind → Token → Reader Exp → Reader Exp
-exp_by kind.Word t again ts = None
+exp_by (kind.Word k) t again ts = None
 exp_by kind.Name t again ts = Some (var t.text.now, ts)
 exp_by (kind.Number n) t again ts = Some (num n, ts)
-exp_by kind.Symbol t again ts = if bytes_eq t.text.now (codes "(") then pair_at again ts else None
+exp_by (kind.Symbol s) t again ts = if bytes_eq t.text.now (codes "(") then pair_at again ts else None
 
 -- one that is at most so deep
 unfoldable pub exp_at : ℕ → Reader Exp

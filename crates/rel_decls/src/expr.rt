@@ -77,7 +77,7 @@ pub fn expr_of<'a>(
     match token.kind {
         Kind::Name => Ok((variable(alloc, token.text)?, rest)),
         Kind::Number(n) => Ok((number(n), rest)),
-        Kind::Symbol if token.text == "(" => pair_of(alloc, rest, depth - 1),
+        Kind::Symbol(_) if token.text == "(" => pair_of(alloc, rest, depth - 1),
         _ => Err(TextFault::Refused),
     }
 }
