@@ -25,13 +25,13 @@ chars-cut text n utf8 boundary =
     ap chars (sym (take-append-drop n text)) ∙ chars-append (take n text) (drop n text) (IsUtf8-take text n utf8 boundary)
 
 module _ (p t : ℕ → Bool) (opposite : (c : ℕ) → p c ≡ not (t c)) where
-  run-all : (cs : List ℕ) → NonePass t cs → take_while p cs ≡ cs
+  pub run-all : (cs : List ℕ) → NonePass t cs → take_while p cs ≡ cs
   run-all [] none = refl
   run-all (c ∷ cs) none =
       let passes : p c ≡ true = opposite c ∙ ap not none.0 in
       take_while-cons p c cs ∙ ap (λ b. cond b (c ∷ take_while p cs) []) passes ∙ ap (λ l. c ∷ l) (run-all cs none.1)
 
-  run-until : (cs : List ℕ) (c : ℕ) (rest : List ℕ) → NonePass t cs → t c ≡ true → take_while p (cs ++ (c ∷ rest)) ≡ cs
+  pub run-until : (cs : List ℕ) (c : ℕ) (rest : List ℕ) → NonePass t cs → t c ≡ true → take_while p (cs ++ (c ∷ rest)) ≡ cs
   run-until [] c rest none stops =
       let fails : p c ≡ false = opposite c ∙ ap not stops in
       take_while-cons p c rest ∙ ap (λ b. cond b (c ∷ take_while p rest) []) fails

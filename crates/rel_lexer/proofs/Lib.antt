@@ -1,5 +1,6 @@
 pub mod Spellings
 pub mod Cuts
+pub mod AsciiNames
 pub mod Faults
 pub mod SymbolPieces
 pub mod Numbers

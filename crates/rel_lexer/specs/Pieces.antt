@@ -1,5 +1,6 @@
 -- What begins a text, by the number of its bytes.
-use Rattle.std.specs.Prelude.{◌≡◌, ℕ, ◌-◌, ◌<◌, ◌≤◌, Bool, List, ◌∷◌, length, take, drop, take_while, Result, Ok, Err}
+use Rattle.std.specs.Prelude.{◌≡◌, ℕ, ◌==◌, ◌||◌, ◌-◌, ◌<◌, ◌≤◌, Bool, List, ◌∷◌, length, take, drop, take_while, Result, Ok, Err}
+use Rattle.std.specs.Char.{is_ascii_alphanumeric}
 use Rattle.std.specs.Str.{chars, IsCharBoundary}
 use Rattle.rel_lang.specs.Tokens.{Piece}
 use Rattle.rel_lang.specs.Tokens.Piece.{gap, token, bad, wide}
@@ -51,3 +52,7 @@ IsPart piece at text (Err fault) = IsFault piece at fault
 abbrev pub part_len : Part → ℕ
 part_len (Gap n) = n
 part_len (Token kind n) = n
+
+-- an ASCII character that goes on with a name
+abbrev pub is_ascii_name : ℕ → Bool
+is_ascii_name c = is_ascii_alphanumeric c || (c == 95)

@@ -2,10 +2,11 @@
 
 ghost use Rattle.std.specs.Prelude.{◌≡◌, ◌^◌, ◌<◌, ◌+◌, not, length, drop, IsTrue, Ok};
 ghost use Rattle.std.specs.Str.{chars};
+ghost use Rattle.unicode_ident.specs.Ident.{is_xid_start};
 ghost use Rattle.rel_lang.specs.Tokens.{is_blank, is_digit, is_line_feed, begins_name, continues_name, has_name_form, slash};
 ghost use Rattle.rel_lang.specs.Tokens.{run_len, comment_piece, number_piece, symbol_piece, symbols, piece_at};
 ghost use Rattle.rel_lang.specs.Tokens.Piece.{token};
-ghost use Rattle.rel_lexer.specs.Pieces.{BeginsWith, IsRun, IsPart, part_len};
+ghost use Rattle.rel_lexer.specs.Pieces.{BeginsWith, IsRun, IsPart, is_ascii_name, part_len};
 ghost use Rattle.rel_lexer.specs.Tokens.{IsOfKind};
 
 use crate::keywords::keyword_of;
@@ -38,10 +39,21 @@ fn is_blank(ch: char) -> bool
     ch == ' ' || ch == '\t' || ch == '\r' || ch == '\n'
 }
 
+/// `is_xid_start`, which takes a table for ASCII too.
+fn is_start(ch: char) -> bool
+    ensures { result ≡ is_xid_start ch }
+{
+    if ch.is_ascii() {
+        ch.is_ascii_alphabetic()
+    } else {
+        is_xid_start(ch)
+    }
+}
+
 fn begins_name(ch: char) -> bool
     ensures { result ≡ begins_name ch }
 {
-    is_xid_start(ch) || ch == '_'
+    is_start(ch) || ch == '_'
 }
 
 /// How many bytes the line takes, without its line feed.
@@ -51,12 +63,35 @@ fn line_len(rest: &str) -> usize
     rest.find(|c: char| c == '\n').unwrap_or(rest.len())
 }
 
-/// How many bytes the characters take that go on with a name.
-fn name_len(rest: &str) -> usize
+/// How many of the first bytes are ASCII letters, digits or `_`.
+fn ascii_name_len(bytes: &[u8]) -> usize
+    ensures { result ≡ run_len is_ascii_name bytes.now }
+{
+    bytes
+        .iter()
+        .take_while(|byte| byte.is_ascii_alphanumeric() || **byte == b'_')
+        .count()
+}
+
+/// How many bytes the characters take that go on with a name, whichever they are.
+fn any_name_len(rest: &str) -> usize
     ensures { IsRun continues_name rest.now result }
 {
     rest.find(|c: char| !is_xid_continue(c))
         .unwrap_or(rest.len())
+}
+
+/// The same, where mostly they are ASCII.
+fn name_len(rest: &str) -> usize
+    ensures { IsRun continues_name rest.now result }
+{
+    let bytes = rest.as_bytes();
+    let len = ascii_name_len(bytes);
+    if len < bytes.len() && !bytes[len].is_ascii() {
+        any_name_len(rest)
+    } else {
+        len
+    }
 }
 
 /// How many digits come first.

@@ -1,10 +1,15 @@
--- The search ends at the first character that goes on with no name.
-use Rattle.std.proofs.Common.{not, rules}
-use Rattle.rel_lang.specs.Tokens.{continues_name}
-use Rattle.std.proofs.lemmas.Fn.{always_returns_same}
-use Rattle.rel_lexer.proofs.Cuts.{run-searched, not-not}
+-- A run of ASCII that ends at ASCII, or with the text, is the whole run.
+use Rattle.std.proofs.Common.{sym, ◌∙◌}
+use Rattle.rel_lexer.proofs.AsciiNames.{found-whole, found-ascii}
 use Rattle.rel_lexer.proofs.parts.name_len.Goals as goal
+use Rattle.rel_lexer.proofs.parts.name_len.Goals.{else-len-bytes-via-then-len-bytes+else-not-is_ascii, else-len-bytes-via-else-len-bytes}
 
-pub returns : goal.returns
-returns c =
-    run-searched (continues_name) (λ c. not (continues_name c)) (λ d. not-not (continues_name d)) _ c.args.rest.now c.find.result c.unwrap_or.result c.utf8.rest c.find.ensures.cases c.unwrap_or.ensures (always_returns_same _ _ _ (λ a r f h. search rules))
+pub returns-else-len-bytes : goal.returns-else-len-bytes
+returns-else-len-bytes c =
+    let text = c.args.rest.now in
+    let bytes = c.as_bytes-bytes.result.now in
+    let k = c.ascii_name_len-len.result in
+    elim c.else-len-bytes.branch [
+      | else-len-bytes-via-then-len-bytes+else-not-is_ascii w ↦ found-ascii text bytes k c.utf8.rest c.as_bytes-bytes.ensures.value c.ascii_name_len-len.ensures w.if-len-bytes.true (sym w.is_ascii.ensures ∙ w.if-not-is_ascii.false)
+      | else-len-bytes-via-else-len-bytes w ↦ found-whole text bytes k c.utf8.rest c.as_bytes-bytes.ensures.value c.ascii_name_len-len.ensures w.if-len-bytes.false
+    ]
