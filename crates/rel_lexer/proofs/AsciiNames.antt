@@ -16,7 +16,6 @@ use Rattle.rel_lang.specs.Tokens.{continues_name, run_len}
 use Rattle.rel_lexer.specs.Pieces.{IsRun, is_ascii_name}
 use Rattle.rel_lexer.proofs.Cuts.{chars-cut, not-not, run-all, run-until, take_while-all}
 
-
 name_below : (c : ℕ) → is_ascii_name c ≡ true → c < 128
 name_below c passes = grind (arith, nat_tests)
 

@@ -3,18 +3,13 @@
 use super::*;
 use std::test::Fail;
 
-/// A kind as one letter: a reserved word, a name, a number (digits) or a symbol.
-fn letter(kind: Kind) -> char {
-    match kind {
-        Kind::Word(_) => 'w',
-        Kind::Name => 'n',
-        Kind::Number(_) => 'd',
-        Kind::Symbol(_) => 's',
-    }
-}
+/// A token as a table writes it.
+type Row<'a> = (Kind, &'a str, u32);
 
-/// Whether the text's tokens have these kinds, texts and places.
-fn gives(alloc: Global, text: &str, expected: &[(char, &str, u32)]) -> bool {
+const GREATEST: i128 = 170141183460469231731687303715884105727;
+
+/// Whether the text's tokens are these.
+fn gives(alloc: Global, text: &str, expected: &[Row<'_>]) -> bool {
     if text.len() > 4096 {
         return false;
     }
@@ -24,10 +19,11 @@ fn gives(alloc: Global, text: &str, expected: &[(char, &str, u32)]) -> bool {
     };
     let mut same = tokens.len() == expected.len();
     for (token, (kind, text, at)) in tokens.iter().zip(expected) {
-        same = same && letter(token.kind) == *kind && token.text == *text && token.at == *at;
+        same = same && token.kind == *kind && token.text == *text && token.at == *at;
     }
     same
 }
+
 /// Why the text is refused, if it is.
 fn fault(alloc: Global, text: &str) -> Option<LexFault> {
     if text.len() > 4096 {
@@ -39,122 +35,98 @@ fn fault(alloc: Global, text: &str) -> Option<LexFault> {
     }
 }
 
+fn name(text: &str, at: u32) -> Row<'_> {
+    (Kind::Name, text, at)
+}
+
+fn word(keyword: Keyword, at: u32) -> Row<'static> {
+    (Kind::Word(keyword), keyword.text(), at)
+}
+
+fn symbol(symbol: Symbol, at: u32) -> Row<'static> {
+    (Kind::Symbol(symbol), symbol.text(), at)
+}
+
+fn number(value: i128, text: &str, at: u32) -> Row<'_> {
+    (Kind::Number(value), text, at)
+}
+
 #[test]
 fn texts_have_their_tokens(rt: HostRuntime) -> Result<(), Fail> {
-    let alloc = rt.alloc();
-    assert!(rt; gives(alloc, "", &[]));
-    assert!(rt;
-        gives(
-            alloc,
-            "unit U { }",
-            &[
-                ('w', "unit", 0),
-                ('n', "U", 5),
-                ('s', "{", 7),
-                ('s', "}", 9)
-            ]
-        )
-    );
-    assert!(rt; gives(alloc, "\ta\r\nb", &[('n', "a", 1), ('n', "b", 4)]));
-    assert!(rt; gives(alloc, "a// b := %\nc //d", &[('n', "a", 0), ('n', "c", 11)]));
-    assert!(rt; gives(alloc, "a//\rb\nc", &[('n', "a", 0), ('n', "c", 6)]));
-    assert!(rt;
-        gives(
-            alloc,
-            "é_2 _ β",
-            &[('n', "é_2", 0), ('n', "_", 5), ('n', "β", 7)]
-        )
-    );
-    assert!(rt;
-        gives(
-            alloc,
+    let table: [(&str, &[Row<'_>]); 12] = [
+        ("", &[]),
+        (" // at the end //", &[]),
+        ("units while", &[name("units", 0), word(Keyword::While, 6)]),
+        (
+            "in int inte",
+            &[word(Keyword::In, 0), word(Keyword::Int, 3), name("inte", 7)],
+        ),
+        ("a\rb", &[name("a", 0), name("b", 2)]),
+        ("a//\rb := %\nc//", &[name("a", 0), name("c", 11)]),
+        (
+            "é_2 e\u{301}x _",
+            &[name("é_2", 0), name("e\u{301}x", 5), name("_", 10)],
+        ),
+        (
             "0 12x",
-            &[('d', "0", 0), ('d', "12", 2), ('n', "x", 4)]
-        )
-    );
-    assert!(rt;
-        gives(
-            alloc,
-            "units while",
-            &[('n', "units", 0), ('w', "while", 6)]
-        )
-    );
-    Ok(())
-}
-
-#[test]
-fn each_symbol_is_a_token(rt: HostRuntime) -> Result<(), Fail> {
-    let spaced = "( ) [ ] { } ; : := , . ~ | + - * = =:= < <= @";
-    let symbols = [
-        ('s', "(", 0),
-        ('s', ")", 2),
-        ('s', "[", 4),
-        ('s', "]", 6),
-        ('s', "{", 8),
-        ('s', "}", 10),
-        ('s', ";", 12),
-        ('s', ":", 14),
-        ('s', ":=", 16),
-        ('s', ",", 19),
-        ('s', ".", 21),
-        ('s', "~", 23),
-        ('s', "|", 25),
-        ('s', "+", 27),
-        ('s', "-", 29),
-        ('s', "*", 31),
-        ('s', "=", 33),
-        ('s', "=:=", 35),
-        ('s', "<", 39),
-        ('s', "<=", 41),
-        ('s', "@", 44),
+            &[number(0, "0", 0), number(12, "12", 2), name("x", 4)],
+        ),
+        (
+            "170141183460469231731687303715884105727",
+            &[number(GREATEST, "170141183460469231731687303715884105727", 0)],
+        ),
+        (
+            "=:=:=:=",
+            &[
+                symbol(Symbol::EqualColonEqual, 0),
+                symbol(Symbol::ColonEqual, 3),
+                symbol(Symbol::ColonEqual, 5),
+            ],
+        ),
+        (
+            "= :<=<",
+            &[
+                symbol(Symbol::Equal, 0),
+                symbol(Symbol::Colon, 2),
+                symbol(Symbol::LessEqual, 3),
+                symbol(Symbol::Less, 5),
+            ],
+        ),
+        (
+            "(x@y)",
+            &[
+                symbol(Symbol::OpenParenthesis, 0),
+                name("x", 1),
+                symbol(Symbol::At, 2),
+                name("y", 3),
+                symbol(Symbol::CloseParenthesis, 4),
+            ],
+        ),
     ];
-    assert!(rt; gives(rt.alloc(), spaced, symbols.as_slice()));
-    Ok(())
-}
-
-#[test]
-fn the_longest_symbol_counts(rt: HostRuntime) -> Result<(), Fail> {
-    let joined = [
-        ('s', "=:=", 0),
-        ('s', ":=", 3),
-        ('s', ":", 5),
-        ('n', "c", 6),
-        ('s', "=", 7),
-        ('s', ":", 8),
-        ('n', "d", 9),
-        ('s', "<=", 10),
-        ('s', "<=", 12),
-        ('s', ":", 14),
-    ];
-    assert!(rt; gives(rt.alloc(), "=:=:=:c=:d<=<=:", joined.as_slice()));
+    for (text, expected) in table {
+        assert!(rt; gives(rt.alloc(), text, expected));
+    }
     Ok(())
 }
 
 #[test]
 fn refused_texts_have_their_places(rt: HostRuntime) -> Result<(), Fail> {
-    let alloc = rt.alloc();
-    assert!(rt; fault(alloc, "%") == Some(LexFault::BadChar(0)));
-    assert!(rt; fault(alloc, "00") == Some(LexFault::BadChar(1)));
-    assert!(rt; fault(alloc, "a 01") == Some(LexFault::BadChar(3)));
-    assert!(rt; fault(alloc, "a /b") == Some(LexFault::BadChar(2)));
-    assert!(rt; fault(alloc, "é%") == Some(LexFault::BadChar(2)));
-    assert!(rt; fault(alloc, "unit U { } %") == Some(LexFault::BadChar(11)));
-    let wide = " 170141183460469231731687303715884105728";
-    assert!(rt; fault(alloc, wide) == Some(LexFault::WideLiteral(1)));
-    Ok(())
-}
-
-#[test]
-fn the_greatest_literal_has_its_value(rt: HostRuntime) -> Result<(), Fail> {
-    let text = "170141183460469231731687303715884105727";
-    match lex(rt.alloc(), text) {
-        Ok(tokens) => match tokens.as_slice() {
-            [token] => assert!(rt;
-                token.kind == Kind::Number(170141183460469231731687303715884105727)
-            ),
-            _ => assert!(rt; false),
-        },
-        Err(_) => assert!(rt; false),
+    let table = [
+        ("%", LexFault::BadChar(0)),
+        ("00", LexFault::BadChar(1)),
+        ("a 01", LexFault::BadChar(3)),
+        ("a /b", LexFault::BadChar(2)),
+        ("é%", LexFault::BadChar(2)),
+        ("a \u{301}", LexFault::BadChar(2)),
+        ("\u{feff}a", LexFault::BadChar(0)),
+        ("unit U { } %", LexFault::BadChar(11)),
+        (
+            " 170141183460469231731687303715884105728 %",
+            LexFault::WideLiteral(1),
+        ),
+    ];
+    for (text, expected) in table {
+        assert!(rt; fault(rt.alloc(), text) == Some(expected));
     }
     Ok(())
 }
