@@ -39,7 +39,7 @@ fn is_blank(ch: char) -> bool
     ch == ' ' || ch == '\t' || ch == '\r' || ch == '\n'
 }
 
-/// `is_xid_start`, which takes a table for ASCII too.
+/// Whether an identifier may start with it. ASCII needs no table.
 fn is_start(ch: char) -> bool
     ensures { result ≡ is_xid_start ch }
 {
@@ -73,7 +73,7 @@ fn ascii_name_len(bytes: &[u8]) -> usize
         .count()
 }
 
-/// How many bytes the characters take that go on with a name, whichever they are.
+/// How many bytes the characters take that go on with a name.
 fn any_name_len(rest: &str) -> usize
     ensures { IsRun continues_name rest.now result }
 {
@@ -81,7 +81,7 @@ fn any_name_len(rest: &str) -> usize
         .unwrap_or(rest.len())
 }
 
-/// The same, where mostly they are ASCII.
+/// The same, by bytes as long as they are ASCII.
 fn name_len(rest: &str) -> usize
     ensures { IsRun continues_name rest.now result }
 {
