@@ -47,7 +47,7 @@ stored_parts m o s = cases (are_of_one (value_sort m) o) refl
     cases true e h = let k = of_one (value_sort m) o e in (h, (k.0, k.2, sym k.1 ∙ ap value_sort h))
     cases false e h = cc
 
-both_true : (a b : Bool) → (a && b) ≡ true → (a ≡ true) × (b ≡ true)
+pub both_true : (a b : Bool) → (a && b) ≡ true → (a ≡ true) × (b ≡ true)
 both_true true b e = (refl, e)
 both_true false b e = cc
 
@@ -263,7 +263,7 @@ three_sorted sorts bounds p a b e =
     let k = two_sorted sorts bounds ref_sort ref_sort a b h.1 in
     (one_sorted sorts bounds bij_sort p h.0, k.0, k.1)
 
-same_truth : (sorts bounds : List Srt) (r q : Valuation) (bs cs : List Elem) → AgreeOn sorts r q → AgreeOn bounds (λ n. get_or bs n null_elem) (λ n. get_or cs n null_elem)
+pub same_truth : (sorts bounds : List Srt) (r q : Valuation) (bs cs : List Elem) → AgreeOn sorts r q → AgreeOn bounds (λ n. get_or bs n null_elem) (λ n. get_or cs n null_elem)
     → (f : Fml) → is_sorted sorts bounds f ≡ true → IsTrueAt r bs f ≡ IsTrueAt q cs f
 same_truth sorts bounds r q bs cs g k verum e = refl
 same_truth sorts bounds r q bs cs g k falsum e = refl

@@ -5,7 +5,7 @@ use crate::sequent::Sequent;
 use crate::sorting::well_sorted;
 use crate::substitution::{instantiate, substitute};
 use crate::term::{Sort, Term};
-use rel_list::{Boxed, List, Memory};
+use rel_list::{Boxed, List, Memory, both};
 use std::alloc::Global;
 use std::test::Fail;
 
@@ -18,11 +18,16 @@ fn next_of_zero(alloc: Global, left: Term) -> Result<Fol, Memory> {
     Ok(Fol::Eq(left, sum))
 }
 
+fn implies(alloc: Global, f: Fol, g: Fol) -> Result<Fol, Memory> {
+    let (f, g) = both(Boxed::new(alloc, f), Boxed::new(alloc, g))?;
+    Ok(Fol::Imp(f, g))
+}
+
 /// Each partner of the free bound number, under the bijection v4, lies in the region v3.
 fn partners_within(alloc: Global) -> Result<Fol, Memory> {
     let pair = Fol::Paired(Term::Var(4), Term::Bound(1), Term::Bound(0));
     let within = Fol::Member(Term::Bound(0), Term::Var(3));
-    let body = Fol::Imp(Boxed::new(alloc, pair)?, Boxed::new(alloc, within)?);
+    let body = implies(alloc, pair, within)?;
     Ok(Fol::Every(Sort::Ref, Boxed::new(alloc, body)?))
 }
 
