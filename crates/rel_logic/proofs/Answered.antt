@@ -1,5 +1,5 @@
 -- What holds of an answered formula holds of it in other words.
-use Rattle.std.proofs.Common.{◌≡◌, ◌↔◌, ℕ, ◌≤◌, List, [], ◌∷◌, Result, Ok, Err, IfOk, sym, subst}
+use Rattle.std.proofs.Common.{◌≡◌, ◌↔◌, ℕ, [], ◌∷◌, Result, Ok, Err, IfOk, sym, subst}
 use Rattle.rel_logic.specs.declared.fol.Fol.{Fol}
 use Rattle.rel_logic.specs.Syntax.{Trm, Fml}
 use Rattle.rel_logic.specs.View.{fml_of}

@@ -1,15 +1,15 @@
 -- What the sort of a term tells: its value has the sort, it is closed, and only variables within the sorts count.
-use Rattle.std.proofs.Common.{◌≡◌, ◌↔◌, ℕ, zero, suc, ◌+◌, ◌-◌, ◌≤◌, ◌<◌, max, ℤ, pos, ◌+ℤ◌, ◌-ℤ◌, ◌*ℤ◌, ◌<ℤ◌, ◌≤ℤ◌, ◌⊎◌, inl, inr, Bool, true, false, ◌&&◌, if◌then◌else◌, IsTrue, List, [], ◌∷◌, ◌++◌, length, get_or, slice_get, Contains, Option, Some, None, refl, sym, ap, subst, ◌∙◌, arith}
-use Rattle.std.proofs.lemmas.Option.{slice_get_within, get_or_from_slice_get}
+use Rattle.std.proofs.Common.{◌≡◌, ◌↔◌, ℕ, zero, suc, ◌-◌, ◌≤◌, max, ℤ, pos, ◌+ℤ◌, ◌-ℤ◌, ◌*ℤ◌, ◌<ℤ◌, ◌≤ℤ◌, ◌⊎◌, inl, inr, Bool, true, false, ◌&&◌, if◌then◌else◌, List, [], ◌∷◌, ◌++◌, length, get_or, Contains, Option, Some, None, refl, sym, ap, subst, ◌∙◌, arith}
+use Rattle.std.proofs.lemmas.Option.{slice_get_within}
 use Rattle.std.proofs.lemmas.List.Elements.{Contains-push, Contains-append_left}
 use Rattle.std.specs.FinSet as set
 use Rattle.rel_list.specs.References.{Ref, Region, just, of_class, same_ref}
 use Rattle.rel_list.specs.Maps.{IsFinite, with_value}
-use Rattle.rel_list.specs.Pairs.{Pairs, IsOneToOne, Extends, linked}
+use Rattle.rel_list.specs.Pairs.{IsOneToOne, Extends, linked}
 use Rattle.rel_list.proofs.Sets.{same_ref_is}
 use Rattle.rel_list.proofs.Pairs.{linked_one_to_one}
 use Rattle.rel_logic.specs.Syntax.{Srt, int_sort, ref_sort, rgn_sort, map_int_sort, map_ref_sort, map_rgn_sort, bij_sort, Trm, var, bound, int, add, sub, mul, null, sel, sto, empty, one, cup, cap, less, img, of, link, Fml, verum, falsum, eq, lt, le, member, is, paired, ext, no, and, or, imp, every, some}
-use Rattle.rel_logic.specs.Truth.{MapTo, Bij, Elem, number, ref, rgn, map_int, map_ref, map_rgn, bij, as_number, as_ref, as_rgn, as_pairs, Carrier, elem, HasSort, Valuation, AgreeOn, null_elem, selected, stored, image, value, FitsSorts, IsMember, IsOfClass, ArePartners, IsTrueAt}
+use Rattle.rel_logic.specs.Truth.{Elem, number, rgn, bij, as_number, as_ref, as_rgn, as_pairs, Carrier, elem, HasSort, Valuation, AgreeOn, null_elem, selected, stored, image, value, FitsSorts, IsMember, IsOfClass, ArePartners, IsTrueAt}
 use Rattle.rel_logic.specs.Bounds.{free_bound_term, free_bound_of}
 use Rattle.rel_logic.specs.Sorting.{same_srt, is_of, are_of_one, takes, value_sort, image_sort, stored_sort, sort_at, has_sort, is_sorted, is_well_sorted}
 

@@ -1,12 +1,12 @@
 -- The value of a term and the truth of a formula after a closed term is put for a place.
-use Rattle.std.proofs.Common.{◌≡◌, ◌↔◌, ℕ, zero, suc, ◌+◌, ◌-◌, ◌≤◌, ◌<◌, max, ◌==◌, ℤ, ◌+ℤ◌, ◌-ℤ◌, ◌*ℤ◌, ◌<ℤ◌, ◌≤ℤ◌, Bool, true, false, Decides, if◌then◌else◌, List, [], ◌∷◌, ◌++◌, length, get_or, refl, sym, ap, subst, ◌∙◌, add-one, arith}
+use Rattle.std.proofs.Common.{◌≡◌, ◌↔◌, ℕ, zero, suc, ◌+◌, ◌==◌, ◌+ℤ◌, ◌-ℤ◌, ◌*ℤ◌, ◌<ℤ◌, ◌≤ℤ◌, Bool, true, false, Decides, if◌then◌else◌, List, [], ◌∷◌, get_or, refl, ap, subst, ◌∙◌, arith}
 use Rattle.std.proofs.lemmas.Bool.Decides.{Decides-eqb}
 use Rattle.std.specs.FinSet as set
 use Rattle.rel_list.specs.References.{just, of_class}
 use Rattle.rel_list.specs.Pairs.{Extends, linked}
-use Rattle.rel_logic.specs.Syntax.{Srt, Trm, var, bound, int, add, sub, mul, null, sel, sto, empty, one, cup, cap, less, img, of, link, Fml, verum, falsum, eq, lt, le, member, is, paired, ext, no, and, or, imp, every, some}
+use Rattle.rel_logic.specs.Syntax.{Trm, var, bound, int, add, sub, mul, null, sel, sto, empty, one, cup, cap, less, img, of, link, Fml, verum, falsum, eq, lt, le, member, is, paired, ext, no, and, or, imp, every, some}
 use Rattle.rel_logic.specs.Truth.{Elem, number, rgn, bij, as_number, as_ref, as_rgn, as_pairs, Carrier, elem, Valuation, changed, null_elem, selected, stored, image, value, IsMember, IsOfClass, ArePartners, IsTrueAt}
-use Rattle.rel_logic.specs.Bounds.{free_bound_term, free_bound_of}
+use Rattle.rel_logic.specs.Bounds.{free_bound_term}
 use Rattle.rel_logic.specs.Substitution as S
 use Rattle.rel_logic.specs.Substitution.{Place, variable, is_variable, is_number, under, put_term, put, substituted, instantiated}
 

@@ -1,5 +1,5 @@
 -- The number one less is looked up outside.
-use Rattle.std.proofs.Common.{◌≡◌, slice_get, sym, ap, ◌∙◌}
+use Rattle.std.proofs.Common.{slice_get, sym, ap, ◌∙◌}
 use Rattle.rel_logic.specs.declared.sorting.Bounds.{fold-roll-Bounds}
 use Rattle.rel_logic.specs.declared.sorting.Bounds.TheVariants as B
 use Rattle.rel_logic.specs.declared.sorting.Bounds.TheOpen.{Bounds-F}
