@@ -1,5 +1,4 @@
 pub mod Weigh
-pub mod Stable
 pub mod Sound
 pub mod Combine
 pub mod TermForms

@@ -4,22 +4,22 @@ use Rattle.std.proofs.lemmas.Int.{ints, by_lt_z}
 use Rattle.std.proofs.lemmas.List.Elements.{All-nil, All-cons, All-head, All-tail, All-push, All-weaker}
 use Rattle.std.proofs.Math.IntN.{*ℤ-zero}
 use Rattle.std.proofs.lemmas.Option.{slice_get_within, get_or_from_slice_get}
-use Rattle.rel_logic.specs.Syntax.{Srt, int_sort, Trm, var, bound, int, add, sub, Fml, eq, lt, no, Sqt, Nod}
+use Rattle.rel_logic.specs.Syntax.{Srt, int_sort, Trm, var, int, add, sub, Fml, eq, lt, no, Sqt, Nod}
 use Rattle.rel_logic.specs.Truth.{number, as_number, Valuation, value, IsTrueAt, FitsSorts, IsValid}
 use Rattle.rel_derive.specs.declared.step.Step.{Step}
 use Rattle.rel_derive.specs.declared.step.Step.TheVariants.{Neint, Farkas}
 use Rattle.rel_derive.specs.Linear.{Linear, number_form, minus, times, term_sort, form_of, IsLinear, bounded_form, IsUsable, Pair, form_at, IsUsableAt, product, IsGoodPair, sum_of, IsGoodSum}
 use Rattle.rel_derive.specs.Rules.{SplitsAt, GoodStep, child, Runs, first_stack, IsAccepted}
 use Rattle.rel_derive.proofs.Weigh.{sign, valued, valued_plus, valued_minus, valued_times, valued_number, valued_variable, valued_constant}
-use Rattle.rel_derive.proofs.Stable.{stable}
+use Rattle.rel_logic.proofs.Stable.{stable}
 
 -- one more than the greatest variable, or 0
 abbrev top_trm : Trm → ℕ
 top_trm (var n) = n + 1
-top_trm (bound n) = 0
 top_trm (int z) = 0
 top_trm (add t u) = max (top_trm t) (top_trm u)
 top_trm (sub t u) = max (top_trm t) (top_trm u)
+top_trm _ = 0
 
 abbrev top_fml : Fml → ℕ
 top_fml (eq t u) = max (top_trm t) (top_trm u)
@@ -45,10 +45,10 @@ module _ (r : Valuation) where
   module _ (n : ℕ) where
     term_value : (t : Trm) → IsLinear t → top_trm t ≤ n → valued numbers n (form_of t) ≡ number_of t
     term_value (var v) l h = valued_variable numbers v n (omega arith)
-    term_value (bound v) l h = absurd l
     term_value (int z) l h = valued_number numbers n z
     term_value (add t u) l h = valued_plus numbers n (form_of t) (form_of u) ∙ ap₂ (λ p q. p +ℤ q) (term_value t l.0 (omega arith)) (term_value u l.1 (omega arith))
     term_value (sub t u) l h = valued_minus numbers n (form_of t) (form_of u) ∙ ap₂ (λ p q. p -ℤ q) (term_value t l.0 (omega arith)) (term_value u l.1 (omega arith))
+    term_value t l h = absurd l
 
     difference_value : (t u : Trm) → IsLinear t → IsLinear u → max (top_trm t) (top_trm u) ≤ n → valued numbers n (minus (form_of t) (form_of u)) ≡ number_of t -ℤ number_of u
     difference_value t u l m h = valued_minus numbers n (form_of t) (form_of u) ∙ ap₂ (λ p q. p -ℤ q) (term_value t l (omega arith)) (term_value u m (omega arith))
@@ -105,10 +105,10 @@ module _ (r : Valuation) where
 
   int_value : (sorts : List Srt) → FitsSorts sorts r → (t : Trm) → term_sort sorts t ≡ Some int_sort → value r [] t ≡ number (number_of t)
   int_value sorts fits (var v) e = let h = fits v int_sort e in h.1 ∙ ap number (sym (ap as_number h.1))
-  int_value sorts fits (bound v) e = cc
   int_value sorts fits (int z) e = refl
   int_value sorts fits (add t u) e = refl
   int_value sorts fits (sub t u) e = refl
+  int_value sorts fits t e = cc
 
 -- no valuation that fits the sorts makes all formulas of the node true
 abbrev IsRefuted : Nod → Type 0

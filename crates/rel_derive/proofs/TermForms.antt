@@ -5,7 +5,7 @@ use Rattle.rel_logic.specs.declared.term.Term.{Term, fold-roll-Term}
 use Rattle.rel_logic.specs.declared.term.Term.TheVariants as T
 use Rattle.rel_logic.specs.declared.term.Term.TheOpen.{Term-F}
 use Rattle.rel_logic.specs.View.{trm_of, term_step}
-use Rattle.rel_logic.specs.Syntax.{Trm, var, bound, int, add, sub}
+use Rattle.rel_logic.specs.Syntax.{Trm, var, int, add, sub}
 use Rattle.rel_derive.specs.declared.linear.Form.{Form}
 use Rattle.rel_derive.specs.declared.linear.Change.TheVariants.{Add, Subtract}
 use Rattle.rel_derive.specs.Linear.{FitsI128, form_of, IsLinear, plus, minus}
@@ -17,10 +17,10 @@ unit_fits false = record { sfits = lit< tt }
 
 pub fits_linear : (t : Trm) → IsLinear t → FitsI128 (form_of t)
 fits_linear (var v) h = (record { sfits = lit< tt }, λ n. unit_fits (n == v))
-fits_linear (bound v) h = absurd h
 fits_linear (int z) h = h
 fits_linear (add t u) h = h.2
 fits_linear (sub t u) h = h.2
+fits_linear t l = absurd l
 
 -- a term's form may be joined to another
 pub fits_term : (t : Trm) (f : Option Form) → IsTermForm t f → FitsIfAny f

@@ -1,7 +1,7 @@
 -- Linear forms over the variables, the forms of terms and formulas, and sums of them.
 use Rattle.std.specs.Prelude.{◌≡◌, ℕ, ℤ, pos, ◌+ℤ◌, ◌-ℤ◌, ◌*ℤ◌, ◌≤ℤ◌, ◌<ℤ◌, FitsSigned, if◌then◌else◌, ◌==◌, List, [], ◌∷◌, take, slice_get, All, Option, Some, None}
 use Rattle.std.specs.Int.{w128}
-use Rattle.rel_logic.specs.Syntax.{Srt, int_sort, Trm, var, bound, int, add, sub, Fml, eq, lt, no, Nod}
+use Rattle.rel_logic.specs.Syntax.{Srt, int_sort, Trm, var, int, add, sub, Fml, eq, lt, no, Nod}
 
 -- a constant, and a coefficient for each variable
 pub record Linear : Type 0 where
@@ -27,29 +27,29 @@ times k a = record { constant = k *ℤ a.constant; coefficient = λ n. k *ℤ a.
 abbrev pub FitsI128 : Linear → Type 0
 FitsI128 a = FitsSigned w128 a.constant × ((n : ℕ) → FitsSigned w128 (a.coefficient n))
 
--- the sort of a closed term that is well sorted
+-- the sort of a closed term that is well sorted, of those that have a form
 abbrev pub term_sort : List Srt → Trm → Option Srt
 term_sort sorts (var n) = slice_get sorts n
-term_sort sorts (bound n) = None
 term_sort sorts (int z) = Some int_sort
 term_sort sorts (add t u) = Some int_sort
 term_sort sorts (sub t u) = Some int_sort
+term_sort sorts _ = None
 
--- the form of a term; that of a bound number is of no use
+-- the form of a variable, number, sum or difference; that of another term is of no use
 abbrev pub form_of : Trm → Linear
 form_of (var n) = variable_form n
-form_of (bound n) = number_form (pos 0)
 form_of (int z) = number_form z
 form_of (add t u) = plus (form_of t) (form_of u)
 form_of (sub t u) = minus (form_of t) (form_of u)
+form_of _ = number_form (pos 0)
 
 -- the term has a form, and the form of each of its subterms fits
 abbrev pub IsLinear : Trm → Type 0
 IsLinear (var n) = Unit {0}
-IsLinear (bound n) = ⊥
 IsLinear (int z) = FitsI128 (form_of (int z))
 IsLinear (add t u) = IsLinear t × IsLinear u × FitsI128 (form_of (add t u))
 IsLinear (sub t u) = IsLinear t × IsLinear u × FitsI128 (form_of (sub t u))
+IsLinear _ = ⊥
 
 -- t - u and t - u + 1
 abbrev pub difference : Trm → Trm → Linear

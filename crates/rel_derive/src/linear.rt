@@ -133,7 +133,6 @@ fn term_form(alloc: Global, t: &Term) -> Result<Option<Form>, Memory>
 {
     match t {
         Term::Var(n) => Ok(Some(variable_form(alloc, *n)?)),
-        Term::Bound(_) => Ok(None),
         Term::Int(z) => Ok(Some(number_form(alloc, *z))),
         Term::Add(a, b) => joined(boxed_form(alloc, a)?, Change::Add, boxed_form(alloc, b)?),
         Term::Sub(a, b) => joined(
@@ -141,6 +140,7 @@ fn term_form(alloc: Global, t: &Term) -> Result<Option<Form>, Memory>
             Change::Subtract,
             boxed_form(alloc, b)?,
         ),
+        _ => Ok(None),
     }
 }
 
@@ -183,8 +183,8 @@ pub fn is_int(sorts: &List<Sort>, t: &Term) -> bool
 {
     match t {
         Term::Var(n) => is_int_variable(sorts, *n),
-        Term::Bound(_) => false,
         Term::Int(_) | Term::Add(_, _) | Term::Sub(_, _) => true,
+        _ => false,
     }
 }
 

@@ -101,7 +101,7 @@ module _ (k : Parts) (lp : IsPlainUnit k.left k.left_proc) (rp : IsPlainUnit k.r
     news = assigned (flat k.left k.left_proc) (left_block k) left_begin ++ right_new
 
     abbrev from_right_alloc : List Elem
-    from_right_alloc = T.rgn s'.alloc ∷ (T.bij the_bijection ∷ news)
+    from_right_alloc = T.rgn s'.alloc ∷ (T.bij q ∷ news)
 
     abbrev from_right : List Elem
     from_right = values_of (item k.right.name) s' k.right.globals ++ from_right_alloc
@@ -127,7 +127,7 @@ module _ (k : Parts) (lp : IsPlainUnit k.left k.left_proc) (rp : IsPlainUnit k.r
         ap (λ n. drop (first_right k + n) values) (sym (length-map k.right.globals _))
         ∙ at_after values (first_right k) (values_of (item k.right.name) s' k.right.globals) from_right_alloc at_right
 
-    at_bijection : drop (bijection k) values ≡ T.bij the_bijection ∷ news
+    at_bijection : drop (bijection k) values ≡ T.bij q ∷ news
     at_bijection = at_next values (right_alloc k) _ _ at_right_alloc
 
     at_fresh : drop (first_fresh k) values ≡ news

@@ -14,7 +14,7 @@ use Rattle.rel_list.specs.References.{Obj, obj_cmp, Region, is_in, same_obj, sam
 pub obj_total : IsTotalOrder obj_cmp
 obj_total = search (comparing, rules)
 
-then_equal : (a b : Ordering) → ordering_then a b ≡ Equal → (a ≡ Equal) × (b ≡ Equal)
+pub then_equal : (a b : Ordering) → ordering_then a b ≡ Equal → (a ≡ Equal) × (b ≡ Equal)
 then_equal Less b e = cc
 then_equal Equal b e = (refl, e)
 then_equal Greater b e = cc
@@ -38,11 +38,11 @@ ties q x e = obj_alone q x (elim (obj_cmp q x) as (λ r. is_eq r ≡ true → r 
 tied : (x : Obj) → eq_by_cmp obj_cmp x x ≡ true
 tied x = ap is_eq (tied_itself obj_total x)
 
-and_both : (a b : Bool) → (a && b) ≡ true → (a ≡ true) × (b ≡ true)
+pub and_both : (a b : Bool) → (a && b) ≡ true → (a ≡ true) × (b ≡ true)
 and_both true b e = (refl, e)
 and_both false b e = cc
 
-or_one : (a b : Bool) → (a || b) ≡ true → (a ≡ true) ⊎ (b ≡ true)
+pub or_one : (a b : Bool) → (a || b) ≡ true → (a ≡ true) ⊎ (b ≡ true)
 or_one true b e = inl refl
 or_one false b e = inr e
 

@@ -1,5 +1,5 @@
 -- References and regions. No program holds one: they are what contracts speak of.
-use Rattle.std.specs.Prelude.{ℕ, Bool, true, false, not, ◌&&◌, ◌||◌, ◌==◌, Option, Some, None}
+use Rattle.std.specs.Prelude.{ℕ, Bool, true, false, not, ◌&&◌, ◌||◌, ◌==◌, List, [], ◌∷◌, Option, Some, None}
 use Rattle.std.specs.declared.cmp.Ordering.{Ordering}
 use Rattle.std.specs.Ordering.{nat_cmp, on, then_cmp}
 use Rattle.std.specs.List.{list_all}
@@ -38,6 +38,19 @@ one o = set.insert set.empty o
 abbrev pub just : Ref → Region
 just None = set.empty
 just (Some o) = one o
+
+-- the members of the class
+abbrev pub of_class : ℕ → Region → Region
+of_class c g = set.retain g (λ o. o.class == c)
+
+-- the regions of all of the references, united
+abbrev pub united : (Obj → Region) → List Obj → Region
+united f [] = set.empty
+united f (o ∷ os) = set.union (f o) (united f os)
+
+-- the regions of all members, united
+abbrev pub united_over : (Obj → Region) → Region → Region
+united_over f g = united f (set.items g)
 
 abbrev pub same_region : Region → Region → Bool
 same_region g h = set.is_subset g h && set.is_subset h g

@@ -1,0 +1,5 @@
+pub mod Scopes
+pub mod Values
+pub mod Answered
+pub mod Sorts
+pub mod Stable

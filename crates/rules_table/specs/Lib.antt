@@ -1,0 +1,4 @@
+pub mod Equal
+pub mod Nodes
+pub mod Table
+pub mod View

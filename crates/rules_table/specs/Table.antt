@@ -1,0 +1,157 @@
+-- The rules on connectives and quantifiers, rows 1 to 14 of the table.
+use Rattle.std.specs.Prelude.{◌≡◌, ℕ, ◌==◌, Bool, true, false, ◌&&◌, if◌then◌else◌, List, [], ◌∷◌, length, get_or, slice_get, Option, Some, None}
+use Rattle.rel_logic.specs.Syntax.{Srt, Trm, var, Fml, verum, falsum, no, and, or, imp, every, some, Nod}
+use Rattle.rel_logic.specs.Substitution.{instantiated}
+use Rattle.rel_logic.specs.Sorting.{has_sort, is_well_sorted}
+use Rattle.rules_table.specs.Equal.{same_fml}
+use Rattle.rules_table.specs.Nodes.{Stp, Addition, Outcome, not_mine, bad, kids}
+
+-- ---- arguments
+
+abbrev pub is_absent : Option ℕ → Bool
+is_absent None = true
+is_absent (Some c) = false
+
+-- the step holds this many formula numbers, terms and formulas, and nothing else
+abbrev pub holds : ℕ → ℕ → ℕ → Stp → Bool
+holds nums terms forms s =
+    length s.nums == nums && (length s.terms == terms && (length s.forms == forms && (length s.ints == 0 && is_absent s.class)))
+
+-- the node's formula with the step's number k
+abbrev pub formula : Nod → Stp → ℕ → Option Fml
+formula n s k = slice_get n.forms (get_or s.nums k 0)
+
+-- ---- children
+
+abbrev pub adds : List Fml → Addition
+adds fs = record { fresh = []; forms = fs }
+
+abbrev pub one_child : List Fml → Outcome
+one_child fs = kids (adds fs ∷ [])
+
+abbrev pub two_children : List Fml → List Fml → Outcome
+two_children fs gs = kids (adds fs ∷ adds gs ∷ [])
+
+-- a child with a fresh variable of the sort, and the body at it
+abbrev pub fresh_child : Srt → Fml → Outcome
+fresh_child s f = kids (record { fresh = s ∷ []; forms = f ∷ [] } ∷ [])
+
+-- ---- the rows on one formula
+
+-- 2: false, or not true, closes the node
+abbrev pub is_absurd : Fml → Bool
+is_absurd falsum = true
+is_absurd (no verum) = true
+is_absurd _ = false
+
+abbrev pub absurd_row : Fml → Outcome
+absurd_row f = if is_absurd f then kids [] else bad
+
+-- 3: F and G
+abbrev pub and_row : Fml → Outcome
+and_row (and f g) = one_child (f ∷ g ∷ [])
+and_row _ = bad
+
+-- 4: not (F or G)
+abbrev pub nor_row : Fml → Outcome
+nor_row (no (or f g)) = one_child (no f ∷ no g ∷ [])
+nor_row _ = bad
+
+-- 5: not (F implies G)
+abbrev pub nimp_row : Fml → Outcome
+nimp_row (no (imp f g)) = one_child (f ∷ no g ∷ [])
+nimp_row _ = bad
+
+-- 6: not not F
+abbrev pub nn_row : Fml → Outcome
+nn_row (no (no f)) = one_child (f ∷ [])
+nn_row _ = bad
+
+-- 7: F or G
+abbrev pub or_row : Fml → Outcome
+or_row (or f g) = two_children (f ∷ []) (g ∷ [])
+or_row _ = bad
+
+-- 8: not (F and G)
+abbrev pub nand_row : Fml → Outcome
+nand_row (no (and f g)) = two_children (no f ∷ []) (no g ∷ [])
+nand_row _ = bad
+
+-- 9: F implies G
+abbrev pub imp_row : Fml → Outcome
+imp_row (imp f g) = two_children (no f ∷ []) (g ∷ [])
+imp_row _ = bad
+
+-- 13: some F, at a fresh variable
+abbrev pub some_row : ℕ → Fml → Outcome
+some_row fresh (some s f) = fresh_child s (instantiated (var fresh) f)
+some_row fresh _ = bad
+
+-- 14: not all F, at a fresh variable
+abbrev pub nall_row : ℕ → Fml → Outcome
+nall_row fresh (no (every s f)) = fresh_child s (no (instantiated (var fresh) f))
+nall_row fresh _ = bad
+
+-- ---- the rows on a formula and a term, which has the quantifier's sort
+
+-- 11: all F, at a term
+abbrev pub all_row : List Srt → Trm → Fml → Outcome
+all_row sorts t (every s f) = if has_sort sorts [] s t then one_child (instantiated t f ∷ []) else bad
+all_row sorts t _ = bad
+
+-- 12: not some F, at a term
+abbrev pub nsome_row : List Srt → Trm → Fml → Outcome
+nsome_row sorts t (no (some s f)) = if has_sort sorts [] s t then one_child (no (instantiated t f) ∷ []) else bad
+nsome_row sorts t _ = bad
+
+-- ---- the other rows
+
+-- 1: a formula and its negation close the node
+abbrev pub are_opposite : Option Fml → Option Fml → Bool
+are_opposite (Some f) (Some (no g)) = same_fml f g
+are_opposite _ _ = false
+
+abbrev pub close_row : Nod → Stp → Outcome
+close_row n s = if holds 2 0 0 s && are_opposite (formula n s 0) (formula n s 1) then kids [] else bad
+
+-- 10: either of a formula and its negation
+abbrev pub cut_formula : List Srt → Fml → Outcome
+cut_formula sorts f = if is_well_sorted sorts f then two_children (f ∷ []) (no f ∷ []) else bad
+
+-- ---- the table
+
+abbrev pub on_formula : (Fml → Outcome) → Option Fml → Outcome
+on_formula rule None = bad
+on_formula rule (Some f) = rule f
+
+abbrev pub on_term : (Trm → Fml → Outcome) → Option Trm → Option Fml → Outcome
+on_term rule (Some t) (Some f) = rule t f
+on_term rule _ _ = bad
+
+-- the step's one formula number, or that and its one term, or its one formula
+abbrev pub one_formula : Nod → Stp → (Fml → Outcome) → Outcome
+one_formula n s rule = if holds 1 0 0 s then on_formula rule (formula n s 0) else bad
+
+abbrev pub formula_and_term : Nod → Stp → (Trm → Fml → Outcome) → Outcome
+formula_and_term n s rule = if holds 1 1 0 s then on_term rule (slice_get s.terms 0) (formula n s 0) else bad
+
+abbrev pub given_formula : Stp → (Fml → Outcome) → Outcome
+given_formula s rule = if holds 0 0 1 s then on_formula rule (slice_get s.forms 0) else bad
+
+abbrev pub propositional : Nod → Stp → Outcome
+propositional n s =
+    if s.row == 1 then close_row n s else
+    if s.row == 2 then one_formula n s absurd_row else
+    if s.row == 3 then one_formula n s and_row else
+    if s.row == 4 then one_formula n s nor_row else
+    if s.row == 5 then one_formula n s nimp_row else
+    if s.row == 6 then one_formula n s nn_row else
+    if s.row == 7 then one_formula n s or_row else
+    if s.row == 8 then one_formula n s nand_row else
+    if s.row == 9 then one_formula n s imp_row else
+    if s.row == 10 then given_formula s (cut_formula n.sorts) else
+    if s.row == 11 then formula_and_term n s (all_row n.sorts) else
+    if s.row == 12 then formula_and_term n s (nsome_row n.sorts) else
+    if s.row == 13 then one_formula n s (some_row (length n.sorts)) else
+    if s.row == 14 then one_formula n s (nall_row (length n.sorts)) else
+    not_mine

@@ -1,0 +1,7 @@
+//! The rules of derivations as a table: steps, what they add to a node, and the rows on
+//! connectives and quantifiers.
+#![tactic(auto)]
+
+pub mod propositional;
+pub mod step;
+pub mod theory;

@@ -1,0 +1,286 @@
+//! The rules on connectives and quantifiers.
+ghost use Rattle.std.specs.Prelude.{◌≡◌, ◌<◌, ◌^◌, [], IfOk, IsTrue, length, map};
+ghost use Rattle.rel_logic.specs.View.{sort_of, trm_of, fml_of};
+ghost use Rattle.rel_logic.specs.Bounds.{free_bound_term, free_bound_of};
+ghost use Rattle.rel_logic.specs.Sorting.{has_sort};
+ghost use Rattle.rules_table.specs.Equal.{same_fml};
+ghost use Rattle.rules_table.specs.Table.{is_absurd, absurd_row, and_row, nor_row, nimp_row, nn_row, or_row, nand_row, imp_row, some_row, nall_row, all_row, nsome_row};
+ghost use Rattle.rules_table.specs.Table.{holds, are_opposite, cut_formula};
+ghost use Rattle.rules_table.specs.View.{step_of, outcome_of};
+
+use crate::step::Step;
+use crate::theory::{Added, Answer, closing, one_child, two_children};
+use rel_list::Memory;
+use rel_logic::comparison::same;
+use rel_logic::fol::Fol;
+use rel_logic::sequent::Node;
+use rel_logic::sorting::{term_sort, well_sorted};
+use rel_logic::substitution::instantiate;
+use rel_logic::term::{Sort, Term, same_sort};
+use std::alloc::Global;
+
+/// Whether the formula is false, or says that true is false.
+fn is_absurd(f: &Fol) -> bool
+    ensures { result ≡ is_absurd (fml_of f.now) }
+{
+    match f {
+        Fol::False => true,
+        Fol::Not(g) => matches!(g.get(), Fol::True),
+        _ => false,
+    }
+}
+
+/// False, or the negation of true.
+fn absurd(alloc: Global, f: &Fol) -> Result<Answer, Memory>
+    ensures { IfOk result (λ a. outcome_of a ≡ absurd_row (fml_of f.now)) }
+{
+    if is_absurd(f) {
+        Ok(closing(alloc, 2))
+    } else {
+        Ok(Answer::Bad)
+    }
+}
+
+/// Both parts of a conjunction.
+fn conjunction(alloc: Global, f: &Fol) -> Result<Answer, Memory>
+    ensures { IfOk result (λ a. outcome_of a ≡ and_row (fml_of f.now)) }
+{
+    match f {
+        Fol::And(a, b) => one_child(
+            alloc,
+            3,
+            Added::nothing(alloc)
+                .with_copy(a.get())?
+                .with_copy(b.get())?,
+        ),
+        _ => Ok(Answer::Bad),
+    }
+}
+
+/// The negations of both parts of a denied disjunction.
+fn denied_disjunction(alloc: Global, f: &Fol) -> Result<Answer, Memory>
+    ensures { IfOk result (λ a. outcome_of a ≡ nor_row (fml_of f.now)) }
+{
+    match f {
+        Fol::Not(g) => match g.get() {
+            Fol::Or(a, b) => one_child(
+                alloc,
+                4,
+                Added::nothing(alloc)
+                    .with_not(alloc, a.get())?
+                    .with_not(alloc, b.get())?,
+            ),
+            _ => Ok(Answer::Bad),
+        },
+        _ => Ok(Answer::Bad),
+    }
+}
+
+/// What implies, and the negation of what is implied.
+fn denied_implication(alloc: Global, f: &Fol) -> Result<Answer, Memory>
+    ensures { IfOk result (λ a. outcome_of a ≡ nimp_row (fml_of f.now)) }
+{
+    match f {
+        Fol::Not(g) => match g.get() {
+            Fol::Imp(a, b) => one_child(
+                alloc,
+                5,
+                Added::nothing(alloc)
+                    .with_copy(a.get())?
+                    .with_not(alloc, b.get())?,
+            ),
+            _ => Ok(Answer::Bad),
+        },
+        _ => Ok(Answer::Bad),
+    }
+}
+
+/// A formula that is denied twice.
+fn double_negation(alloc: Global, f: &Fol) -> Result<Answer, Memory>
+    ensures { IfOk result (λ a. outcome_of a ≡ nn_row (fml_of f.now)) }
+{
+    match f {
+        Fol::Not(g) => match g.get() {
+            Fol::Not(a) => one_child(alloc, 6, Added::nothing(alloc).with_copy(a.get())?),
+            _ => Ok(Answer::Bad),
+        },
+        _ => Ok(Answer::Bad),
+    }
+}
+
+/// Either part of a disjunction.
+fn disjunction(alloc: Global, f: &Fol) -> Result<Answer, Memory>
+    ensures { IfOk result (λ a. outcome_of a ≡ or_row (fml_of f.now)) }
+{
+    match f {
+        Fol::Or(a, b) => two_children(
+            alloc,
+            7,
+            Added::nothing(alloc).with_copy(a.get())?,
+            Added::nothing(alloc).with_copy(b.get())?,
+        ),
+        _ => Ok(Answer::Bad),
+    }
+}
+
+/// The negation of either part of a denied conjunction.
+fn denied_conjunction(alloc: Global, f: &Fol) -> Result<Answer, Memory>
+    ensures { IfOk result (λ a. outcome_of a ≡ nand_row (fml_of f.now)) }
+{
+    match f {
+        Fol::Not(g) => match g.get() {
+            Fol::And(a, b) => two_children(
+                alloc,
+                8,
+                Added::nothing(alloc).with_not(alloc, a.get())?,
+                Added::nothing(alloc).with_not(alloc, b.get())?,
+            ),
+            _ => Ok(Answer::Bad),
+        },
+        _ => Ok(Answer::Bad),
+    }
+}
+
+/// The negation of what implies, or what is implied.
+fn implication(alloc: Global, f: &Fol) -> Result<Answer, Memory>
+    ensures { IfOk result (λ a. outcome_of a ≡ imp_row (fml_of f.now)) }
+{
+    match f {
+        Fol::Imp(a, b) => two_children(
+            alloc,
+            9,
+            Added::nothing(alloc).with_not(alloc, a.get())?,
+            Added::nothing(alloc).with_copy(b.get())?,
+        ),
+        _ => Ok(Answer::Bad),
+    }
+}
+
+/// Some instance of a formula, at a fresh variable.
+fn existence(alloc: Global, node: &Node, f: &Fol) -> Result<Answer, Memory>
+    requires room { length node.now.sorts < 2 ^ 31 }
+    requires closed { free_bound_of (fml_of f.now) ≡ 0 }
+    ensures { IfOk result (λ a. outcome_of a ≡ some_row (length node.now.sorts) (fml_of f.now)) }
+{
+    match f {
+        Fol::Exists(sort, body) => {
+            let fresh = Term::Var(node.sorts.len() as u32);
+            let at_fresh = instantiate(body.get(), &fresh)?;
+            one_child(alloc, 13, Added::variable(alloc, *sort)?.with(at_fresh)?)
+        }
+        _ => Ok(Answer::Bad),
+    }
+}
+
+/// A denied instance of a denied formula, at a fresh variable.
+fn denied_universal(alloc: Global, node: &Node, f: &Fol) -> Result<Answer, Memory>
+    requires room { length node.now.sorts < 2 ^ 31 }
+    requires closed { free_bound_of (fml_of f.now) ≡ 0 }
+    ensures { IfOk result (λ a. outcome_of a ≡ nall_row (length node.now.sorts) (fml_of f.now)) }
+{
+    match f {
+        Fol::Not(g) => match g.get() {
+            Fol::Every(sort, body) => {
+                let fresh = Term::Var(node.sorts.len() as u32);
+                let at_fresh = instantiate(body.get(), &fresh)?;
+                one_child(
+                    alloc,
+                    14,
+                    Added::variable(alloc, *sort)?.with_not(alloc, &at_fresh)?,
+                )
+            }
+            _ => Ok(Answer::Bad),
+        },
+        _ => Ok(Answer::Bad),
+    }
+}
+
+/// Whether the closed term has the sort over the node's variables.
+fn has_sort(node: &Node, sort: Sort, t: &Term) -> bool
+    ensures exact { result ≡ has_sort (map sort_of node.now.sorts) [] (sort_of sort) (trm_of t.now) }
+    ensures closed { IsTrue result → free_bound_term (trm_of t.now) ≡ 0 }
+{
+    match term_sort(t, node.sorts.as_slice()) {
+        Some(s) => same_sort(sort, s),
+        None => false,
+    }
+}
+
+/// A universal formula at a term.
+fn universal(alloc: Global, node: &Node, t: &Term, f: &Fol) -> Result<Answer, Memory>
+    requires { free_bound_of (fml_of f.now) ≡ 0 }
+    ensures { IfOk result (λ a. outcome_of a ≡ all_row (map sort_of node.now.sorts) (trm_of t.now) (fml_of f.now)) }
+{
+    match f {
+        Fol::Every(sort, body) => {
+            if has_sort(node, *sort, t) {
+                let at_term = instantiate(body.get(), t)?;
+                one_child(alloc, 11, Added::nothing(alloc).with(at_term)?)
+            } else {
+                Ok(Answer::Bad)
+            }
+        }
+        _ => Ok(Answer::Bad),
+    }
+}
+
+/// The denial of a denied existence at a term.
+fn denied_existence(alloc: Global, node: &Node, t: &Term, f: &Fol) -> Result<Answer, Memory>
+    requires { free_bound_of (fml_of f.now) ≡ 0 }
+    ensures { IfOk result (λ a. outcome_of a ≡ nsome_row (map sort_of node.now.sorts) (trm_of t.now) (fml_of f.now)) }
+{
+    match f {
+        Fol::Not(g) => match g.get() {
+            Fol::Exists(sort, body) => {
+                if has_sort(node, *sort, t) {
+                    let at_term = instantiate(body.get(), t)?;
+                    one_child(alloc, 12, Added::nothing(alloc).with_not(alloc, &at_term)?)
+                } else {
+                    Ok(Answer::Bad)
+                }
+            }
+            _ => Ok(Answer::Bad),
+        },
+        _ => Ok(Answer::Bad),
+    }
+}
+
+/// Either of a formula and its negation.
+fn cut(alloc: Global, node: &Node, f: &Fol) -> Result<Answer, Memory>
+    ensures { IfOk result (λ a. outcome_of a ≡ cut_formula (map sort_of node.now.sorts) (fml_of f.now)) }
+{
+    if well_sorted(f, node.sorts.as_slice()) {
+        let first = Added::nothing(alloc).with_copy(f)?;
+        let second = Added::nothing(alloc).with_not(alloc, f)?;
+        two_children(alloc, 10, first, second)
+    } else {
+        Ok(Answer::Bad)
+    }
+}
+
+/// Whether the step holds this many formula numbers, terms and formulas, and nothing else.
+fn holds(step: &Step, nums: usize, terms: usize, forms: usize) -> bool
+    ensures { result ≡ holds nums terms forms (step_of step.now) }
+{
+    step.nums.len() == nums
+        && step.terms.len() == terms
+        && step.forms.len() == forms
+        && step.ints.is_empty()
+        && step.class.is_none()
+}
+
+#[tactic(auto, using(crate::proofs::Equal::answers_alike, crate::proofs::Equal::same_fml_is))]
+fn same_forms(f: &Fol, g: &Fol) -> bool
+    ensures { result ≡ same_fml (fml_of f.now) (fml_of g.now) }
+{
+    same(f, g)
+}
+
+fn are_opposite(f: &Fol, g: &Fol) -> bool
+    ensures { result ≡ are_opposite (Some (fml_of f.now)) (Some (fml_of g.now)) }
+{
+    match g {
+        Fol::Not(h) => same_forms(f, h.get()),
+        _ => false,
+    }
+}
