@@ -1,3 +1,4 @@
 pub mod formers
 pub mod References
+pub mod Regions
 pub mod Pairs
