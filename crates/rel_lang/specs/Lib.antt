@@ -22,3 +22,4 @@ pub mod Visible
 pub mod Respects
 pub mod Interchange
 pub mod TrueBundle
+pub mod Laws

@@ -1,7 +1,7 @@
 -- The value of an expression in a state. What stands under `old` is read in the state `entry`.
 use Rattle.std.specs.Prelude.{◌+ℤ◌, ◌-ℤ◌, ◌*ℤ◌, Bool, ◌&&◌, bytes_eq, None}
 use Rattle.rel_list.specs.References.{Obj, just, is_in}
-use Rattle.rel_list.specs.Regions.{nothing, union, meet, minus, of_class, image}
+use Rattle.rel_list.specs.Regions.{nothing, union, meet, minus, of_class, united_over}
 use Rattle.rel_lang.specs.Syntax.{Word, Expression, Var, Num, Null, Empty, Alloc, Add, Sub, Mul, Field, Single, Union, Meet, Minus, Image, Filter, Old, Place}
 use Rattle.rel_lang.specs.State.{Tables, class_number, has_field, Value, Number, Reference, Objects, as_number, as_reference, as_region, objects_in, State, Scope, find_variable, read_variable, read_field}
 
@@ -24,7 +24,7 @@ module _ (tables : Tables) (sc : Scope) where
   value_of (Meet a b) entry s = Objects (meet (as_region (value_of a entry s)) (as_region (value_of b entry s)))
   value_of (Minus a b) entry s = Objects (minus (as_region (value_of a entry s)) (as_region (value_of b entry s)))
   -- the objects that the field names in the region's members
-  value_of (Image a f) entry s = Objects (image (λ o. objects_in (s.heap o f)) (as_region (value_of a entry s)))
+  value_of (Image a f) entry s = Objects (united_over (λ o. objects_in (s.heap o f)) (as_region (value_of a entry s)))
   value_of (Filter a c) entry s = Objects (of_class (class_number tables c) (as_region (value_of a entry s)))
   value_of (Old a) entry s = value_of a entry entry
 

@@ -20,13 +20,13 @@ minus = set.difference
 abbrev pub of_class : ℕ → Region → Region
 of_class c g = set.retain g (λ o. o.class == c)
 
-abbrev pub union_of_all : (Obj → Region) → List Obj → Region
-union_of_all f [] = nothing
-union_of_all f (o ∷ os) = union (f o) (union_of_all f os)
+abbrev pub united : (Obj → Region) → List Obj → Region
+united f [] = nothing
+united f (o ∷ os) = union (f o) (united f os)
 
 -- the union of what the function gives at the members
-abbrev pub image : (Obj → Region) → Region → Region
-image f g = union_of_all f (set.items g)
+abbrev pub united_over : (Obj → Region) → Region → Region
+united_over f g = united f (set.items g)
 
 -- null is in no region
 abbrev pub is_member : Ref → Region → Bool

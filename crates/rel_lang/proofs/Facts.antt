@@ -1,0 +1,257 @@
+-- What small programs do, and when small formulas are true.
+use Rattle.std.proofs.Common.{◌≡◌, ℕ, ℤ, pos, Bool, true, false, ◌&&◌, ◌||◌, true≢false, IsTrue, [], ◌∷◌, Some, None, refl, sym, ap, ◌∙◌, rules}
+use Rattle.std.specs.Prelude.{codes}
+use Rattle.std.specs.Ordering.{is_eq}
+use Rattle.std.specs.Cmp.{IsTotalOrder, tied_itself}
+use Rattle.std.specs.Cmp.Rules.{comparing}
+use Rattle.std.specs.FinSet as set
+use Rattle.rel_list.specs.References.{Obj, same_obj, Region, is_in}
+use Rattle.rel_list.specs.Regions.{nothing}
+use Rattle.rel_list.specs.Pairs.{Pairs, pair_cmp, has, Extends}
+use Rattle.rel_list.proofs.Sets.{and_both}
+use Rattle.rel_list.proofs.Regions.{retained, matched_is_each}
+use Rattle.rel_lang.specs.Syntax as syntax
+use Rattle.rel_lang.specs.Syntax.{Word, Ty, Int, Rgn, Class, Decl, Expression, Var, Num, Null, Add, Old, Formula, True, Eq, Lt, Command, At, Form, Skip, Assign, Load, Store, New, Call, If, While, Block, End, Then}
+use Rattle.rel_lang.specs.State.{Tables, Value, Number, Reference, Objects, Owner, ByInterface, ByModule, ByClient, ByCall, State, has_field, set_variable, with_object}
+use Rattle.rel_lang.specs.Scope.{Setting, post_scope, body_scope, result_name}
+use Rattle.rel_lang.specs.Truth.{quantified, with_quantified, holds}
+use Rattle.rel_lang.specs.Run.{Picks, Outcome, Done, Fault, Out, NoPick, unwatched, Program, code_of, begin, run_of}
+use Rattle.rel_lang.specs.Relation.{IsBijection, related_regions, related, objects_with, agree_image}
+use Rattle.rel_lang.specs.Linked.{linked, strict}
+
+-- ---- a class with two fields, three variables, and a procedure
+
+abbrev x : Word
+x = codes "x"
+
+abbrev y : Word
+y = codes "y"
+
+abbrev p : Word
+p = codes "p"
+
+abbrev f : Word
+f = codes "f"
+
+abbrev node : Word
+node = codes "node"
+
+abbrev tables : Tables
+tables = record {
+  classes = node ∷ [];
+  fields = record { name = f; class = node; ty = Int } ∷ [];
+}
+
+abbrev int_named : Word → Decl
+int_named z = record { name = z; ty = Int }
+
+abbrev blank : State
+blank = record { vars = λ o z. Number (pos 0); alloc = nothing; heap = λ o g. Number (pos 0) }
+
+-- x is a local of p, y a local of the caller and x one too
+abbrev caller : Setting
+caller = record { interface = []; own = []; parameters = []; locals = int_named x ∷ int_named y ∷ []; result = Some Int }
+
+abbrev callee : Setting
+callee = record { interface = []; own = []; parameters = []; locals = int_named x ∷ []; result = Some Int }
+
+abbrev one : Command → Block
+one c = Then c End
+
+abbrev two : Form → Form → Block
+two a b = Then (At 0 a) (Then (At 0 b) End)
+
+-- p gives its local x as its result
+abbrev program : Program
+program = record {
+  tables = tables;
+  callees = record { name = p; setting = callee; commands = one (At 0 (Assign result_name (Var x))); is_watched = false } ∷ [];
+  watch = unwatched;
+}
+
+abbrev run : ℕ → Block → Picks → Outcome
+run n b k = run_of program n (code_of caller false) b (begin caller blank) k
+
+abbrev local : Word → Outcome → Value
+local z (Done s k) = s.vars ByCall z
+local z o = Number (pos 99)
+
+-- ---- runs
+
+load_at_null : run 5 (one (At 0 (Load x y f))) [] ≡ Fault
+load_at_null = refl
+
+store_at_null : run 5 (one (At 0 (Store y f (Num (pos 1))))) [] ≡ Fault
+store_at_null = refl
+
+abbrev count_to : ℤ → Block
+count_to n = one (At 0 (While (Lt (Var x) (Num n)) True (one (At 0 (Assign x (Add (Var x) (Num (pos 1))))))))
+
+turns_cost_one : (run 1 (count_to (pos 2)) [] ≡ Out) × (local x (run 2 (count_to (pos 2)) []) ≡ Number (pos 2))
+turns_cost_one = (refl, refl)
+
+calls_cost_one : (run 0 (one (At 0 (Call y p []))) [] ≡ Out) × (local y (run 1 (one (At 0 (Call y p []))) []) ≡ Number (pos 0))
+calls_cost_one = (refl, refl)
+
+-- the caller's x comes back as 7, and p's began at 0
+locals_are_own : (local x (run 1 (two (Assign x (Num (pos 7))) (Call y p [])) []) ≡ Number (pos 7))
+    × (local y (run 1 (two (Assign x (Num (pos 7))) (Call y p [])) []) ≡ Number (pos 0))
+locals_are_own = (refl, refl)
+
+new_needs_a_pick : (run 1 (one (At 0 (New x node))) [] ≡ NoPick) × (run 1 (one (At 0 (New x node))) (None ∷ []) ≡ NoPick)
+    × (run 1 (one (At 0 (New x node))) (Some (record { class = 1; number = 0 }) ∷ []) ≡ NoPick)
+new_needs_a_pick = (refl, refl, refl)
+
+old_result_is_0 : (s t : State) → holds tables (post_scope caller) (Eq (Old (Var result_name)) (Num (pos 0))) (begin caller s) t ≡ true
+old_result_is_0 s t = refl
+
+-- ---- new objects
+
+abbrev node_at : ℕ → Obj
+node_at n = record { class = 0; number = n }
+
+-- an object that is allocated can't be taken again
+new_takes_no_allocated : (s : State) (n : ℕ) → is_in (node_at n) s.alloc ≡ true
+    → run_of program 1 (code_of caller false) (one (At 0 (New x node))) s (Some (node_at n) ∷ []) ≡ NoPick
+new_takes_no_allocated s n inside = rw inside refl
+
+-- one that isn't is allocated, with its field at 0, and x refers to it
+new_object : (s : State) (n : ℕ) → is_in (node_at n) s.alloc ≡ false
+    → run_of program 1 (code_of caller false) (one (At 0 (New x node))) s (Some (node_at n) ∷ [])
+    ≡ Done (set_variable ByCall x (Reference (Some (node_at n))) (with_object tables (node_at n) s)) []
+new_object s n outside = rw outside refl
+
+-- ---- a client with a module
+
+abbrev clause : Formula → syntax.Clause
+clause q = record { at = 0; formula = q }
+
+abbrev nothing_said : syntax.Spec
+nothing_said = record { needs = clause True; gives = clause True; writes = [] }
+
+abbrev body : Block → syntax.Body
+body b = record { at = 0; locals = []; commands = b }
+
+-- the boundary is the field f of the objects in the global x; the method p says nothing
+abbrev store : syntax.Interface
+store = record {
+  at = 0;
+  name = codes "store";
+  globals = record { name = x; ty = Rgn } ∷ [];
+  boundary_at = 0;
+  boundary = record { region = Var x; field = f } ∷ [];
+  init_ensures = clause True;
+  init_writes = [];
+  methods = record { at = 0; name = p; params = []; result = Int; spec = nothing_said } ∷ [];
+}
+
+-- its own global y is 1 after p
+abbrev kept : syntax.Module
+kept = record {
+  at = 0;
+  name = codes "same";
+  interface = codes "store";
+  globals = int_named y ∷ [];
+  invariant = clause True;
+  init = body End;
+  methods = (p, body (one (At 0 (Assign y (Num (pos 1)))))) ∷ [];
+}
+
+-- a main with this body, in a client of the module's name with a global of its name
+abbrev main : Block → syntax.Proc
+main b = record { at = 0; name = codes "main"; params = []; result = Int; spec = nothing_said; body = body b }
+
+abbrev user : Ty → Block → syntax.Client
+user t b = record { at = 0; name = codes "same"; interface = codes "store"; globals = record { name = y; ty = t } ∷ []; procs = main b ∷ [] }
+
+-- y refers to an object, and g is the boundary's region
+abbrev inside : Region → State
+inside g = set_variable (ByInterface (codes "store")) x (Objects g) (set_variable (ByClient (codes "same")) y (Reference (Some (node_at 0))) blank)
+
+abbrev load : Block
+load = one (At 0 (Load result_name y f))
+
+abbrev class_node : Ty
+class_node = Class node
+
+-- a load of a boundary location by a client is a fault under the watch, and none without it
+watched_load : (g : Region) → is_in (node_at 0) g ≡ true → strict tables store kept (user class_node load) (main load) 1 (inside g) [] ≡ Fault
+watched_load g within = rw within refl
+
+unwatched_load : (g : Region) → local result_name (linked tables store kept (user class_node load) (main load) 1 (inside g) []) ≡ Number (pos 0)
+unwatched_load g = refl
+
+-- outside the boundary the watch lets it be
+outside_load : (g : Region) → is_in (node_at 0) g ≡ false → local result_name (strict tables store kept (user class_node load) (main load) 1 (inside g) []) ≡ Number (pos 0)
+outside_load g without = rw without refl
+
+abbrev set_and_call : Block
+set_and_call = two (Assign y (Num (pos 7))) (Call result_name p [])
+
+abbrev global : Owner → Outcome → Value
+global o (Done s k) = s.vars o y
+global o _ = Number (pos 99)
+
+-- the module's y is set, and the client's is left alone
+globals_are_own : (global (ByModule (codes "same")) (linked tables store kept (user Int set_and_call) (main set_and_call) 1 blank []) ≡ Number (pos 1))
+    × (global (ByClient (codes "same")) (linked tables store kept (user Int set_and_call) (main set_and_call) 1 blank []) ≡ Number (pos 7))
+globals_are_own = (refl, refl)
+
+-- ---- formulas
+
+-- what is old is read at entry, in an invariant too, and a quantified name keeps its value there
+old_reads_the_entry : (s : State) → holds tables (body_scope caller) (Eq (Old (Var x)) (Num (pos 0))) (begin caller s) (set_variable ByCall x (Number (pos 7)) s) ≡ true
+old_reads_the_entry s = refl
+
+-- a quantified name has one value in the present and at entry
+old_keeps_quantified : (entry s : State) (o : Obj)
+    → holds tables (quantified x node ∷ []) (Eq (Old (Var x)) (Var x)) (with_quantified x o entry) (with_quantified x o s) ≡ same_obj o o
+old_keeps_quantified entry s o = refl
+
+-- ---- relations
+
+null_is_alone : (q : Pairs) (a : Obj) → (related q (Reference None) (Reference (Some a)) ≡ false) × (related q (Reference (Some a)) (Reference None) ≡ false)
+null_is_alone q a = (refl, refl)
+
+-- a region with a member that has no partner isn't related
+lonely_member : (q : Pairs) (g h : Region) (a : Obj) → IsTrue (is_in a g) → ((b : Obj) → ¬ (IsTrue (has q a b))) → ¬ (IsTrue (related_regions q g h))
+lonely_member q g h a within lonely e =
+    let m = (matched_is_each _ g h).0 (and_both _ _ e).0 a within in
+    lonely m.0 m.2
+
+lonely_on_the_right : (q : Pairs) (g h : Region) (b : Obj) → IsTrue (is_in b h) → ((a : Obj) → ¬ (IsTrue (has q a b))) → ¬ (IsTrue (related_regions q g h))
+lonely_on_the_right q g h b within lonely e =
+    let m = (matched_is_each _ h g).0 (and_both _ _ e).1 b within in
+    lonely m.0 m.2
+
+-- `agree` needs a partner of each object of the field's class on both sides, whatever the values
+agree_needs_left_partners : (q : Pairs) (s t : State) (g h : Region) (n : ℕ) → IsTrue (is_in (node_at n) g) → ((b : Obj) → ¬ (IsTrue (has q (node_at n) b)))
+    → ¬ (IsTrue (agree_image tables q f s t g h))
+agree_needs_left_partners q s t g h n within lonely e =
+    let kept_too : IsTrue (is_in (node_at n) (objects_with tables f g)) = retained g (has_field tables f) (node_at n) ∙ ap (λ b. b && true) within in
+    let m = (matched_is_each _ _ h).0 (and_both _ _ e).0 (node_at n) kept_too in
+    lonely m.0 (and_both _ _ m.2).0
+
+agree_needs_right_partners : (q : Pairs) (s t : State) (g h : Region) (n : ℕ) → IsTrue (is_in (node_at n) h) → ((a : Obj) → ¬ (IsTrue (has q a (node_at n))))
+    → ¬ (IsTrue (agree_image tables q f s t g h))
+agree_needs_right_partners q s t g h n within lonely e =
+    let kept_too : IsTrue (is_in (node_at n) (objects_with tables f h)) = retained h (has_field tables f) (node_at n) ∙ ap (λ b. b && true) within in
+    let m = (matched_is_each _ _ g).0 (and_both _ _ e).1 (node_at n) kept_too in
+    lonely m.0 (and_both _ _ m.2).0
+
+-- an object that isn't allocated has no partner, and is related to another under an extension
+new_objects_are_not_related : (q : Pairs) (s t : State) (a b : Obj) → IsBijection q s t → is_in a s.alloc ≡ false → ¬ (IsTrue (related q (Reference (Some a)) (Reference (Some b))))
+new_objects_are_not_related q s t a b bijection new e = true≢false (sym (bijection.allocated a b e).0 ∙ new)
+
+pair_total : IsTotalOrder pair_cmp
+pair_total = search (comparing, rules)
+
+new_objects_are_related_under_an_extension : (q : Pairs) (a b : Obj) → Extends q (set.insert q (a, b)) × IsTrue (related (set.insert q (a, b)) (Reference (Some a)) (Reference (Some b)))
+new_objects_are_related_under_an_extension q a b = (
+  λ c d e. set.contains-insert pair_total q (a, b) (c, d) ∙ or_later _ _ e,
+  set.contains-insert pair_total q (a, b) (a, b) ∙ ap (λ r. is_eq r || has q a b) (tied_itself pair_total (a, b)),
+)
+  where
+    or_later : (u v : Bool) → v ≡ true → (u || v) ≡ true
+    or_later true v e = refl
+    or_later false v e = e
