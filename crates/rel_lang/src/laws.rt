@@ -1,9 +1,26 @@
 //! Laws of the definitions, each on the contract of a function that does nothing.
 
-ghost use Rattle.rel_lang.specs.Laws.{GreaterBoundsKeepOutcomes};
+ghost use Rattle.rel_lang.specs.Laws.{GreaterBoundsKeepOutcomes, NoObjectGoes, RelationalTruthIsStable, WatchesOnlyAddFaults};
 
 /// A run that needs no more than its bound ends in the same way at every greater bound.
 #[tactic(auto, using(crate::proofs::Bounds::greater_bounds))]
 pub fn greater_bounds_keep_outcomes()
     ensures { GreaterBoundsKeepOutcomes }
+{}
+
+/// A run that is no fault under a watch ends in the same way without it.
+#[tactic(auto, using(crate::proofs::Watches::watches))]
+pub fn watches_only_add_faults()
+    ensures { WatchesOnlyAddFaults }
+{}
+
+/// No run frees an object.
+#[tactic(auto, using(crate::proofs::Growth::no_object_goes))]
+pub fn no_object_goes()
+    ensures { NoObjectGoes }
+{}
+
+/// A relation formula that can't be false is true.
+pub fn relational_truth_is_stable()
+    ensures { RelationalTruthIsStable }
 {}
