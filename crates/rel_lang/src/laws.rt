@@ -1,6 +1,6 @@
 //! Laws of the definitions, each on the contract of a function that does nothing.
 
-ghost use Rattle.rel_lang.specs.Laws.{GreaterBoundsKeepOutcomes, NoObjectGoes, RelationalTruthIsStable, WatchesOnlyAddFaults};
+ghost use Rattle.rel_lang.specs.Laws.{GreaterBoundsKeepOutcomes, NoObjectGoes, RelationalTruthIsStable, TypedValuesFit, WatchesOnlyAddFaults};
 
 /// A run that needs no more than its bound ends in the same way at every greater bound.
 #[tactic(auto, using(crate::proofs::Bounds::greater_bounds))]
@@ -23,4 +23,10 @@ pub fn no_object_goes()
 /// A relation formula that can't be false is true.
 pub fn relational_truth_is_stable()
     ensures { RelationalTruthIsStable }
+{}
+
+/// The value of a typed expression fits its type.
+#[tactic(auto, using(crate::proofs::Values::values_fit))]
+pub fn typed_values_fit()
+    ensures { TypedValuesFit }
 {}
