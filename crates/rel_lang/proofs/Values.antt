@@ -91,28 +91,28 @@ module _ (tables : Tables) where
   default_has_none (Class c) o e = no_member o e
 
   -- the objects that a location names are allocated
-  location_within : (d : Option ClassField) (s : State) (v : Value) (m : Obj) → LocationFits tables d s v m → Within (objects_in v) s.alloc
-  location_within None s v m fits o e = no_member o (subst (λ w. IsTrue (is_in o (objects_in w))) fits e)
-  location_within (Some d) s v m fits o e =
-      elim (is_in m s.alloc && is_of_field tables (Some d) m) as (λ b. MatchBool b (Fits s.alloc d.ty v) (v ≡ default d.ty) → IsTrue (is_in o s.alloc)) [
-        | true ↦ λ h. objects_fit d.ty v s.alloc h o e
+  location_within : (d : Option ClassField) (alloc : Region) (v : Value) (m : Obj) → LocationFits tables d alloc v m → Within (objects_in v) alloc
+  location_within None alloc v m fits o e = no_member o (subst (λ w. IsTrue (is_in o (objects_in w))) fits e)
+  location_within (Some d) alloc v m fits o e =
+      elim (is_in m alloc && is_of_field tables (Some d) m) as (λ b. MatchBool b (Fits alloc d.ty v) (v ≡ default d.ty) → IsTrue (is_in o alloc)) [
+        | true ↦ λ h. objects_fit d.ty v alloc h o e
         | false ↦ λ h. absurd (default_has_none d.ty o (subst (λ w. IsTrue (is_in o (objects_in w))) h e))
       ] fits
 
   -- the field of an allocated object of its class fits the field's type
-  location_fits : (d : ClassField) (s : State) (v : Value) (m : Obj) → LocationFits tables (Some d) s v m
-      → IsTrue (is_in m s.alloc && (m.class == class_number tables d.class)) → Fits s.alloc d.ty v
-  location_fits d s v m fits e = subst (λ b. MatchBool b (Fits s.alloc d.ty v) (v ≡ default d.ty)) e fits
+  location_fits : (d : ClassField) (alloc : Region) (v : Value) (m : Obj) → LocationFits tables (Some d) alloc v m
+      → IsTrue (is_in m alloc && (m.class == class_number tables d.class)) → Fits alloc d.ty v
+  location_fits d alloc v m fits e = subst (λ b. MatchBool b (Fits alloc d.ty v) (v ≡ default d.ty)) e fits
 
-  field_fits : (f : Word) (d : ClassField) (r : Value) (s : State) → find_field tables f ≡ Some d → ((o : Obj) → LocationFits tables (find_field tables f) s (s.heap o f) o)
+  pub field_fits : (f : Word) (d : ClassField) (r : Value) (s : State) → find_field tables f ≡ Some d → ((o : Obj) → LocationFits tables (find_field tables f) s.alloc (s.heap o f) o)
       → Fits s.alloc (Class d.class) r → Fits s.alloc d.ty (read_field tables (as_reference r) f s)
   field_fits f d (Number n) s is formed fits = cc
   field_fits f d (Reference None) s is formed fits = subst (λ w. Fits s.alloc d.ty (default_of w)) (sym is) (default_fits d.ty s.alloc)
-  field_fits f d (Reference (Some o)) s is formed fits = location_fits d s (s.heap o f) o (subst (λ w. LocationFits tables w s (s.heap o f) o) is (formed o)) fits
+  field_fits f d (Reference (Some o)) s is formed fits = location_fits d s.alloc (s.heap o f) o (subst (λ w. LocationFits tables w s.alloc (s.heap o f) o) is (formed o)) fits
   field_fits f d (Objects k) s is formed fits = cc
 
   module _ (sc : Scope) where
-    variable_fits : (x : Word) (t : Ty) (s : State) → IsWellFormed tables sc s → IsSomeAnd (find_variable x sc) (λ v. v.ty ≡ t) → Fits s.alloc t (read_variable (find_variable x sc) s)
+    pub variable_fits : (x : Word) (t : Ty) (s : State) → IsWellFormed tables sc s → IsSomeAnd (find_variable x sc) (λ v. v.ty ≡ t) → Fits s.alloc t (read_variable (find_variable x sc) s)
     variable_fits x t s formed typed =
         let h = both_some {P = λ v. Fits s.alloc v.ty (value_in s v)} (find_variable x sc) (found _ _ x sc formed.variables) typed in
         subst (λ o. Fits s.alloc t (read_variable o s)) (sym h.1) (subst (λ u. Fits s.alloc u (value_in s h.0)) h.3 h.2)
@@ -152,7 +152,7 @@ module _ (tables : Tables) where
         → HasType tables old sc (Image a f) t → Fits s.alloc t (value_of tables sc (Image a f) entry s)
     image_at a f t old entry s formed typed =
         let h = both_some {P = λ d. Unit {0}} (find_field tables f) (if_some _) typed in
-        region_fits _ s.alloc t (h.3).2 (λ o e. let m = (united_over_has _ _ o).0 e in location_within (find_field tables f) s (s.heap m.0 f) m.0 (formed.locations m.0 f) o m.2)
+        region_fits _ s.alloc t (h.3).2 (λ o e. let m = (united_over_has _ _ o).0 e in location_within (find_field tables f) s.alloc (s.heap m.0 f) m.0 (formed.locations m.0 f) o m.2)
 
     -- The value of a typed expression fits its type.
     pub value_fits : (e : Expression) (t : Ty) (old : Bool) (entry s : State) → IsWellFormed tables sc entry → IsWellFormed tables sc s → Within entry.alloc s.alloc

@@ -190,12 +190,12 @@ with_object tables o s =
 -- ---- well-formed states
 
 -- An allocated object of the field's class has a value of the field's type; every other location holds the default.
-abbrev pub LocationFits : Tables → Option ClassField → State → Value → Obj → Type 0
-LocationFits tables None s value o = value ≡ Number (pos 0)
-LocationFits tables (Some d) s value o =
-    MatchBool (is_in o s.alloc && is_of_field tables (Some d) o) (IsTrue (fits_type tables d.ty s.alloc value)) (value ≡ default d.ty)
+abbrev pub LocationFits : Tables → Option ClassField → Region → Value → Obj → Type 0
+LocationFits tables None alloc value o = value ≡ Number (pos 0)
+LocationFits tables (Some d) alloc value o =
+    MatchBool (is_in o alloc && is_of_field tables (Some d) o) (IsTrue (fits_type tables d.ty alloc value)) (value ≡ default d.ty)
 
 -- Every variable of the scope and every location holds what fits its type. References that aren't allocated are in neither.
 pub record IsWellFormed (tables : Tables) (sc : Scope) (s : State) : Type 0 where
   pub variables : AllByRecursion (λ v. IsTrue (fits_type tables v.ty s.alloc (value_in s v))) sc
-  pub locations : (o : Obj) (f : Word) → LocationFits tables (find_field tables f) s (s.heap o f) o
+  pub locations : (o : Obj) (f : Word) → LocationFits tables (find_field tables f) s.alloc (s.heap o f) o
