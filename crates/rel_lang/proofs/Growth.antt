@@ -43,11 +43,11 @@ write_allocates_none : (v : Option Variable) (value : Value) (s : State) → (wr
 write_allocates_none None value s = refl
 write_allocates_none (Some v) value s = refl
 
-defaults_allocate_none : (sc : Scope) (s : State) → (with_defaults sc s).alloc ≡ s.alloc
+pub defaults_allocate_none : (sc : Scope) (s : State) → (with_defaults sc s).alloc ≡ s.alloc
 defaults_allocate_none [] s = refl
 defaults_allocate_none (v ∷ vs) s = defaults_allocate_none vs s
 
-arguments_allocate_none : (g : Setting) (vs : List Value) (s : State) → (called g vs s).alloc ≡ s.alloc
+pub arguments_allocate_none : (g : Setting) (vs : List Value) (s : State) → (called g vs s).alloc ≡ s.alloc
 arguments_allocate_none g vs s = arguments g.parameters vs
   where
     arguments : (ds : List Decl) (ws : List Value) → (with_arguments ds ws (with_new_call s)).alloc ≡ s.alloc

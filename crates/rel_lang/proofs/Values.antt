@@ -21,7 +21,7 @@ found P name x [] all = tt
 found P name x (a ∷ rest) all =
     elim (bytes_eq x (name a)) as (λ b. IfSome (if b then Some a else find_named name x rest) P) [ true ↦ all.0 | false ↦ found P name x rest all.1 ]
 
-both_some : {A : Type 0} {P Q : A → Type 0} (o : Option A) → IfSome o P → IsSomeAnd o Q → (a : A) × (o ≡ Some a) × P a × Q a
+pub both_some : {A : Type 0} {P Q : A → Type 0} (o : Option A) → IfSome o P → IsSomeAnd o Q → (a : A) × (o ≡ Some a) × P a × Q a
 both_some None p q = absurd q
 both_some (Some a) p q = (a, refl, p, q)
 

@@ -1,22 +1,19 @@
 -- What is written, allocated and put at its default keeps states well formed.
-use Rattle.std.proofs.Common.{◌≡◌, Bool, true, false, not, ◌&&◌, ◌||◌, ◌==◌, if◌then◌else◌, IsTrue, IsFalse, IfSome, IsSomeAnd, MatchBool, List, [], ◌∷◌, ◌++◌, map, Option, Some, None, refl, sym, ap, subst, ◌∙◌, ⊎_elim, inl, inr, ◌⊎◌, true≢false}
+use Rattle.std.proofs.Common.{◌≡◌, Bool, true, false, ◌&&◌, ◌||◌, ◌==◌, if◌then◌else◌, IsTrue, IfSome, MatchBool, List, [], ◌∷◌, ◌++◌, Option, Some, None, refl, sym, ap, subst, ◌∙◌, inl, inr, true≢false}
 use Rattle.std.specs.Prelude.{bytes_eq}
 use Rattle.std.specs.List.{AllByRecursion}
 use Rattle.std.specs.Ordering.{eq_by_cmp}
 use Rattle.std.specs.FinSet as set
 use Rattle.std.proofs.lemmas.Slice.Eq.{bytes_eq-Decides}
-use Rattle.rel_list.specs.References.{Obj, obj_cmp, Ref, Region, is_in, same_obj}
-use Rattle.rel_list.proofs.Sets.{obj_total, ties, and_both, or_one, same_obj_is}
-use Rattle.rel_lang.specs.Syntax.{Word, Ty, Int, Rgn, Class}
-use Rattle.rel_lang.specs.State.{find_named, ClassField, Tables, class_number, find_field, is_of_field, Value, Number, Reference, Objects, default, default_of, fits_type, Owner, ByInterface, ByModule, ByUnit, ByClient, ByCall, ByQuantifier, same_owner, State, Variable, Scope, find_variable, is_variable, value_in, set_variable, write_variable, with_defaults, write_field, with_object, LocationFits, IsWellFormed}
+use Rattle.rel_list.specs.References.{Obj, obj_cmp, Region, is_in, same_obj}
+use Rattle.rel_list.proofs.Sets.{obj_total, ties, and_both, same_obj_is}
+use Rattle.rel_lang.specs.Syntax.{Word, Ty}
+use Rattle.rel_lang.specs.State.{ClassField, Tables, class_number, find_field, is_of_field, Value, default, default_of, Owner, ByInterface, ByModule, ByUnit, ByClient, ByCall, ByQuantifier, same_owner, State, Variable, Scope, find_variable, is_variable, value_in, write_variable, with_defaults, write_field, with_object, LocationFits}
 use Rattle.rel_lang.specs.Typed.{IsAmong, AreDistinct, names_of}
+use Rattle.rel_lang.specs.Laws.{Agree}
 use Rattle.rel_lang.proofs.Values.{found, Within, Fits, default_fits, fits_more}
 
 -- ---- variables of one type
-
--- if the two are one variable they have one type
-abbrev pub Agree : Variable → Variable → Type 0
-Agree v w = IsTrue (is_variable w.owner w.name v) → w.ty ≡ v.ty
 
 abbrev pub AgreeAll : Scope → Scope → Type 0
 AgreeAll vs ws = AllByRecursion (λ v. AllByRecursion (Agree v) ws) vs

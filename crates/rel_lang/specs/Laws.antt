@@ -1,12 +1,14 @@
 -- Laws of the definitions, which functions of `laws` prove.
-use Rattle.std.specs.Prelude.{◌≡◌, ◌≢◌, ℕ, ◌≤◌, Bool, IsTrue}
+use Rattle.std.specs.Prelude.{◌≡◌, ◌≢◌, ◌⊎◌, ℕ, ◌≤◌, Bool, IsTrue, IsFalse, IfSome, IsSomeAnd, List, [], ◌∷◌, Some}
+use Rattle.std.specs.List.{AllByRecursion}
 use Rattle.rel_list.specs.Pairs.{Pairs}
 use Rattle.rel_list.specs.Regions.{is_within}
-use Rattle.rel_lang.specs.Syntax.{Ty, Expression, RelFormula, Block}
-use Rattle.rel_lang.specs.State.{Tables, fits_type, State, Scope, IsWellFormed}
+use Rattle.rel_lang.specs.Syntax.{Word, Ty, Expression, RelFormula, Block}
+use Rattle.rel_lang.specs.State.{Tables, find_named, fits_type, ByCall, same_owner, State, Variable, is_variable, Scope, IsWellFormed}
+use Rattle.rel_lang.specs.Scope.{Setting, globals_of, body_scope}
 use Rattle.rel_lang.specs.Value.{value_of}
-use Rattle.rel_lang.specs.Typed.{HasType}
-use Rattle.rel_lang.specs.Run.{Picks, Done, Fault, Out, unwatched, Program, Code, run_of}
+use Rattle.rel_lang.specs.Typed.{HasType, Signature, IsTypedBody}
+use Rattle.rel_lang.specs.Run.{Picks, Done, Fault, Out, Callee, unwatched, Program, find_callee, Code, code_of, run_of}
 use Rattle.rel_lang.specs.Relation.{Moment, RelHolds}
 
 -- An outcome other than out is the outcome at every greater bound too.
@@ -34,3 +36,39 @@ TypedValuesFit =
     (tables : Tables) (sc : Scope) (old : Bool) (e : Expression) (t : Ty) (entry s : State)
     → IsWellFormed tables sc entry → IsWellFormed tables sc s → IsTrue (is_within entry.alloc s.alloc) → HasType tables old sc e t
     → IsTrue (fits_type tables t s.alloc (value_of tables sc e entry s))
+
+-- ---- typed runs
+
+abbrev pub IsOneOf : Variable → Scope → Type 0
+IsOneOf v [] = ⊥
+IsOneOf v (w ∷ ws) = (v ≡ w) ⊎ IsOneOf v ws
+
+-- if the two are one variable they have one type
+abbrev pub Agree : Variable → Variable → Type 0
+Agree v w = IsTrue (is_variable w.owner w.name v) → w.ty ≡ v.ty
+
+-- the globals that the bodies of a program see: none is a call's, and none has two types
+pub record AreGlobals (globals : Scope) : Type 0 where
+  pub of_items : AllByRecursion (λ v. IsFalse (same_owner v.owner ByCall)) globals
+  pub agree : AllByRecursion (λ v. AllByRecursion (Agree v) globals) globals
+
+abbrev pub IsCalleeFor : Signature → Callee → Type 0
+IsCalleeFor q c = (c.setting.parameters ≡ q.params) × (c.setting.result ≡ Some q.result)
+
+-- The body is typed, sees these globals alone, and what it calls is in the program.
+pub record IsTypedIn (p : Program) (globals : Scope) (g : Setting) (b : Block) : Type 0 where
+  pub callees : List Signature
+  pub typed : IsTypedBody p.tables g callees b
+  pub sees : AllByRecursion (λ v. IsOneOf v globals) (globals_of g)
+  pub answered : (x : Word) → IfSome (find_named (λ q. q.name) x callees) (λ q. IsSomeAnd (find_callee x p.callees) (IsCalleeFor q))
+
+pub record IsTypedProgram (p : Program) (globals : Scope) : Type 0 where
+  pub are_globals : AreGlobals globals
+  pub bodies : AllByRecursion (λ c. IsTypedIn p globals c.setting c.commands) p.callees
+
+-- From a well-formed state a typed body ends in one.
+abbrev pub TypedRunsEndWellFormed : Type 0
+TypedRunsEndWellFormed =
+    (p : Program) (globals : Scope) (g : Setting) (b : Block) → IsTypedProgram p globals → IsTypedIn p globals g b
+    → (is_watched : Bool) (n : ℕ) (s t : State) (k j : Picks) → IsWellFormed p.tables globals s → IsWellFormed p.tables (body_scope g) s
+    → run_of p n (code_of g is_watched) b s k ≡ Done t j → IsWellFormed p.tables globals t × IsWellFormed p.tables (body_scope g) t

@@ -1,6 +1,6 @@
 //! Laws of the definitions, each on the contract of a function that does nothing.
 
-ghost use Rattle.rel_lang.specs.Laws.{GreaterBoundsKeepOutcomes, NoObjectGoes, RelationalTruthIsStable, TypedValuesFit, WatchesOnlyAddFaults};
+ghost use Rattle.rel_lang.specs.Laws.{GreaterBoundsKeepOutcomes, NoObjectGoes, RelationalTruthIsStable, TypedRunsEndWellFormed, TypedValuesFit, WatchesOnlyAddFaults};
 
 /// A run that needs no more than its bound ends in the same way at every greater bound.
 #[tactic(auto, using(crate::proofs::Bounds::greater_bounds))]
@@ -29,4 +29,9 @@ pub fn relational_truth_is_stable()
 #[tactic(auto, using(crate::proofs::Values::values_fit))]
 pub fn typed_values_fit()
     ensures { TypedValuesFit }
+{}
+
+/// A typed body ends in a well-formed state where it began in one.
+pub fn typed_runs_end_well_formed()
+    ensures { TypedRunsEndWellFormed }
 {}
