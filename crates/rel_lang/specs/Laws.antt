@@ -1,14 +1,17 @@
 -- Laws of the definitions, which functions of `laws` prove.
-use Rattle.std.specs.Prelude.{◌≡◌, ◌≢◌, ◌⊎◌, ℕ, ◌≤◌, Bool, IsTrue, IsFalse, IfSome, IsSomeAnd, List, [], ◌∷◌, Some}
+use Rattle.std.specs.Prelude.{◌≡◌, ◌≢◌, ◌⊎◌, ℕ, ◌≤◌, Bool, IsTrue, IsFalse, IfSome, IsSomeAnd, List, [], ◌∷◌, ◌++◌, Some}
 use Rattle.std.specs.List.{AllByRecursion}
 use Rattle.rel_list.specs.Pairs.{Pairs}
 use Rattle.rel_list.specs.Regions.{is_within}
-use Rattle.rel_lang.specs.Syntax.{Word, Ty, Expression, RelFormula, Block}
+use Rattle.rel_lang.specs.Syntax.{Word, Ty, Expression, RelFormula, Block, Interface, Module, UnitItem, Client}
 use Rattle.rel_lang.specs.State.{Tables, find_named, fits_type, ByCall, same_owner, State, Variable, is_variable, Scope, IsWellFormed}
-use Rattle.rel_lang.specs.Scope.{Setting, globals_of, body_scope}
+use Rattle.rel_lang.specs.Scope.{Setting, interface_globals, module_globals, unit_globals, client_globals, globals_of, body_scope, unit_setting, client_setting, method_setting, init_setting}
 use Rattle.rel_lang.specs.Value.{value_of}
-use Rattle.rel_lang.specs.Typed.{HasType, Signature, IsTypedBody}
-use Rattle.rel_lang.specs.Run.{Picks, Done, Fault, Out, Callee, unwatched, Program, find_callee, Code, code_of, run_of}
+use Rattle.rel_lang.specs.Typed.{HasType, Signature, IsTypedBody, IsTypedModule, IsTypedUnit, IsTypedClient}
+use Rattle.rel_lang.specs.Run.{Picks, Done, Fault, Out, Callee, Watch, unwatched, Program, find_callee, Code, code_of, run_of, unit_program, module_program}
+use Rattle.rel_lang.specs.Meets.{invariant_scope}
+use Rattle.rel_lang.specs.Lookup.{find_body}
+use Rattle.rel_lang.specs.Linked.{linked_program}
 use Rattle.rel_lang.specs.Relation.{Moment, RelHolds}
 
 -- An outcome other than out is the outcome at every greater bound too.
@@ -72,3 +75,25 @@ TypedRunsEndWellFormed =
     (p : Program) (globals : Scope) (g : Setting) (b : Block) → IsTypedProgram p globals → IsTypedIn p globals g b
     → (is_watched : Bool) (n : ℕ) (s t : State) (k j : Picks) → IsWellFormed p.tables globals s → IsWellFormed p.tables (body_scope g) s
     → run_of p n (code_of g is_watched) b s k ≡ Done t j → IsWellFormed p.tables globals t × IsWellFormed p.tables (body_scope g) t
+
+-- The bodies of a typed unit are typed in its program.
+abbrev pub UnitProgramsAreTyped : Type 0
+UnitProgramsAreTyped =
+    (tables : Tables) (u : UnitItem) → IsTypedUnit tables u
+    → IsTypedProgram (unit_program tables u) (unit_globals u)
+    × AllByRecursion (λ q. IsTypedIn (unit_program tables u) (unit_globals u) (unit_setting u q) q.body.commands) u.procs
+
+-- So are those of a typed client and a typed module in the program of the two, under every watch.
+abbrev pub LinkedProgramsAreTyped : Type 0
+LinkedProgramsAreTyped =
+    (tables : Tables) (i : Interface) (m : Module) (c : Client) (w : Watch) → IsTypedModule tables i m → IsTypedClient tables i c
+    → IsTypedProgram (linked_program tables i m c w) (interface_globals i ++ (module_globals m ++ client_globals c))
+    × AllByRecursion (λ q. IsTypedIn (linked_program tables i m c w) (interface_globals i ++ (module_globals m ++ client_globals c)) (client_setting i c q) q.body.commands) c.procs
+
+-- And those of a typed module alone.
+abbrev pub ModuleProgramsAreTyped : Type 0
+ModuleProgramsAreTyped =
+    (tables : Tables) (i : Interface) (m : Module) → IsTypedModule tables i m
+    → IsTypedProgram (module_program tables) (invariant_scope i m)
+    × IsTypedIn (module_program tables) (invariant_scope i m) (init_setting i m) m.init.commands
+    × AllByRecursion (λ q. IsSomeAnd (find_body q.name m.methods) (λ b. IsTypedIn (module_program tables) (invariant_scope i m) (method_setting i m q b) b.commands)) i.methods

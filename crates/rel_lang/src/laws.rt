@@ -1,6 +1,6 @@
 //! Laws of the definitions, each on the contract of a function that does nothing.
 
-ghost use Rattle.rel_lang.specs.Laws.{GreaterBoundsKeepOutcomes, NoObjectGoes, RelationalTruthIsStable, TypedRunsEndWellFormed, TypedValuesFit, WatchesOnlyAddFaults};
+ghost use Rattle.rel_lang.specs.Laws.{GreaterBoundsKeepOutcomes, LinkedProgramsAreTyped, ModuleProgramsAreTyped, NoObjectGoes, RelationalTruthIsStable, TypedRunsEndWellFormed, TypedValuesFit, UnitProgramsAreTyped, WatchesOnlyAddFaults};
 
 /// A run that needs no more than its bound ends in the same way at every greater bound.
 #[tactic(auto, using(crate::proofs::Bounds::greater_bounds))]
@@ -34,4 +34,19 @@ pub fn typed_values_fit()
 /// A typed body ends in a well-formed state where it began in one.
 pub fn typed_runs_end_well_formed()
     ensures { TypedRunsEndWellFormed }
+{}
+
+/// A typed unit's bodies are typed in its program.
+pub fn unit_programs_are_typed()
+    ensures { UnitProgramsAreTyped }
+{}
+
+/// A typed module's bodies are typed in a program that calls nothing.
+pub fn module_programs_are_typed()
+    ensures { ModuleProgramsAreTyped }
+{}
+
+/// The bodies of a typed client and a typed module are typed in the program of the two.
+pub fn linked_programs_are_typed()
+    ensures { LinkedProgramsAreTyped }
 {}
