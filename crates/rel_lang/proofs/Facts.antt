@@ -1,6 +1,7 @@
 -- What small programs do, and when small formulas are true.
-use Rattle.std.proofs.Common.{◌≡◌, ℕ, ℤ, pos, Bool, true, false, ◌&&◌, ◌||◌, true≢false, IsTrue, [], ◌∷◌, Some, None, refl, sym, ap, ◌∙◌, rules}
-use Rattle.std.specs.Prelude.{codes}
+use Rattle.std.proofs.Common.{List, ◌≡◌, ℕ, ℤ, pos, Bool, true, false, ◌&&◌, ◌||◌, true≢false, IsTrue, [], ◌∷◌, Some, None, refl, sym, ap, ◌∙◌, rules, not, ⊎_elim, inl}
+use Rattle.std.specs.Prelude.{codes, bytes_eq}
+use Rattle.std.proofs.lemmas.Slice.Eq.{bytes_eq-Decides}
 use Rattle.std.specs.Ordering.{is_eq}
 use Rattle.std.specs.Cmp.{IsTotalOrder, tied_itself}
 use Rattle.std.specs.Cmp.Rules.{comparing}
@@ -11,9 +12,10 @@ use Rattle.rel_list.specs.Pairs.{Pairs, pair_cmp, has, Extends}
 use Rattle.rel_list.proofs.Sets.{and_both}
 use Rattle.rel_list.proofs.Regions.{retained, matched_is_each}
 use Rattle.rel_lang.specs.Syntax as syntax
-use Rattle.rel_lang.specs.Syntax.{Word, Ty, Int, Rgn, Class, Decl, Expression, Var, Num, Null, Add, Old, Formula, True, Eq, Lt, Command, At, Form, Skip, Assign, Load, Store, New, Call, If, While, Block, End, Then}
-use Rattle.rel_lang.specs.State.{Tables, Value, Number, Reference, Objects, Owner, ByInterface, ByModule, ByClient, ByCall, State, has_field, set_variable, with_object}
-use Rattle.rel_lang.specs.Scope.{Setting, post_scope, body_scope, result_name}
+use Rattle.rel_lang.specs.Syntax.{Word, Ty, Int, Rgn, Class, Decl, Expression, Var, Num, Null, Add, Old, Formula, True, Eq, Lt, Command, At, Form, Skip, Assign, Load, Store, New, Call, If, While, Block, End, Then, Image}
+use Rattle.rel_lang.specs.State.{Tables, Value, Number, Reference, Objects, Owner, ByInterface, ByModule, ByClient, ByCall, State, has_field, set_variable, with_object, Scope}
+use Rattle.rel_lang.specs.Scope.{Setting, post_scope, body_scope, result_name, init_setting}
+use Rattle.rel_lang.specs.Typed.{IsAmong, AreDistinct, HasType, IsTypedFormula, Signature, Names, IsTypedCommand, IsTypedSpec, IsTypedModule, IsTypedClient}
 use Rattle.rel_lang.specs.Truth.{quantified, with_quantified, holds}
 use Rattle.rel_lang.specs.Run.{Picks, Outcome, Done, Fault, Out, NoPick, unwatched, Program, code_of, begin, run_of}
 use Rattle.rel_lang.specs.Relation.{IsBijection, related_regions, related, objects_with, agree_image}
@@ -255,3 +257,89 @@ new_objects_are_related_under_an_extension q a b = (
     or_later : (u v : Bool) → v ≡ true → (u || v) ≡ true
     or_later true v e = refl
     or_later false v e = e
+
+-- ---- typing
+
+abbrev is_among : Word → List Word → Bool
+is_among z [] = false
+is_among z (w ∷ ws) = bytes_eq z w || is_among z ws
+
+abbrev are_distinct : List Word → Bool
+are_distinct [] = true
+are_distinct (z ∷ zs) = not (is_among z zs) && are_distinct zs
+
+among_is_tested : (z : Word) (ws : List Word) → IsAmong z ws → is_among z ws ≡ true
+among_is_tested z [] e = absurd e
+among_is_tested z (w ∷ ws) e =
+    ⊎_elim (λ here. ap (λ b. b || is_among z ws) ((bytes_eq-Decides z w).1 here)) (λ later. or_true (bytes_eq z w) _ (among_is_tested z ws later)) e
+  where
+    or_true : (u v : Bool) → v ≡ true → (u || v) ≡ true
+    or_true true v h = refl
+    or_true false v h = h
+
+distinct : (zs : List Word) → are_distinct zs ≡ true → AreDistinct zs
+distinct [] e = tt
+distinct (z ∷ zs) e =
+    let both = and_both _ _ e in
+    (λ among. true≢false (sym (among_is_tested z zs among) ∙ false_of _ both.0), distinct zs both.1)
+  where
+    false_of : (b : Bool) → not b ≡ true → b ≡ false
+    false_of true h = cc
+    false_of false h = refl
+
+-- the module and the client above are typed
+kept_is_typed : IsTypedModule tables store kept
+kept_is_typed = record {
+  interface = refl;
+  types = (tt, tt);
+  names = distinct (result_name ∷ x ∷ y ∷ []) refl;
+  invariant = tt;
+  init = record { names = distinct (x ∷ y ∷ []) refl; locals = tt; commands = tt };
+  listed = refl;
+  methods = (record { names = distinct (x ∷ y ∷ result_name ∷ []) refl; locals = tt; commands = ((Int, (refl, refl), (refl, refl)), tt) }, tt);
+}
+
+nothing_is_typed : (g : Setting) → IsTypedSpec tables g nothing_said
+nothing_is_typed g = record { needs = tt; gives = tt; writes = tt }
+
+user_is_typed : IsTypedClient tables store (user class_node load)
+user_is_typed = record {
+  interface = refl;
+  types = (inl refl, tt);
+  names = distinct (result_name ∷ x ∷ y ∷ []) refl;
+  proc_names = distinct (codes "main" ∷ p ∷ []) refl;
+  main = refl;
+  procs = (
+    record {
+      params = tt;
+      result = tt;
+      spec = nothing_is_typed _;
+      body = record { names = distinct (x ∷ y ∷ result_name ∷ []) refl; locals = tt; commands = ((refl, (refl, refl)), tt) };
+    },
+    tt,
+  );
+}
+
+-- a module's body calls nothing, and nothing calls a `main`
+module_calls_nothing : (q : Word) → ¬ (IsTypedCommand tables (record { scope = body_scope (init_setting store kept); callees = [] }) (At 0 (Call y q [])))
+module_calls_nothing q typed = typed.1
+
+main_is_not_called : (ns : Names) (z : Word) (es : List Expression) → ¬ (IsTypedCommand tables ns (At 0 (Call z (codes "main") es)))
+main_is_not_called ns z es typed = typed.0 refl
+
+-- a parameter isn't assigned
+abbrev with_parameter : Setting
+with_parameter = record { interface = []; own = []; parameters = int_named x ∷ []; locals = []; result = Some Int }
+
+parameters_stay : (ns : List Signature) → ¬ (IsTypedCommand tables (record { scope = body_scope with_parameter; callees = ns }) (At 0 (Assign x (Num (pos 1)))))
+parameters_stay ns typed = true≢false (sym (typed.1).0)
+
+-- null has every class, what is old isn't read in a precondition, and an int field has no image
+null_is_null : (sc : Scope) → IsTypedFormula tables false sc (Eq Null Null)
+null_is_null sc = (class_node, tt, tt)
+
+no_old_before : (sc : Scope) (e : Expression) (t : Ty) → ¬ (HasType tables false sc (Old e) t)
+no_old_before sc e t typed = true≢false (sym typed.0)
+
+no_int_image : (sc : Scope) (g : Expression) (t : Ty) → ¬ (HasType tables true sc (Image g f) t)
+no_int_image sc g t typed = typed.1 refl
