@@ -1,5 +1,5 @@
 -- What small programs do, and when small formulas are true.
-use Rattle.std.proofs.Common.{List, ◌≡◌, ℕ, ℤ, pos, Bool, true, false, ◌&&◌, ◌||◌, true≢false, IsTrue, [], ◌∷◌, Some, None, refl, sym, ap, ◌∙◌, rules, not, ⊎_elim, inl}
+use Rattle.std.proofs.Common.{List, ◌≡◌, ℕ, ℤ, pos, Bool, true, false, ◌&&◌, ◌||◌, true≢false, IsTrue, [], ◌∷◌, Some, None, refl, sym, ap, ◌∙◌, rules, not, ⊎_elim, inl, zero, suc, IsFalse, subst, if◌then◌else◌}
 use Rattle.std.specs.Prelude.{codes, bytes_eq}
 use Rattle.std.proofs.lemmas.Slice.Eq.{bytes_eq-Decides}
 use Rattle.std.specs.Ordering.{is_eq}
@@ -7,19 +7,23 @@ use Rattle.std.specs.Cmp.{IsTotalOrder, tied_itself}
 use Rattle.std.specs.Cmp.Rules.{comparing}
 use Rattle.std.specs.FinSet as set
 use Rattle.rel_list.specs.References.{Obj, same_obj, Region, is_in}
-use Rattle.rel_list.specs.Regions.{nothing}
+use Rattle.rel_list.specs.Regions.{nothing, is_within}
 use Rattle.rel_list.specs.Pairs.{Pairs, pair_cmp, has, Extends}
 use Rattle.rel_list.proofs.Sets.{and_both}
 use Rattle.rel_list.proofs.Regions.{retained, matched_is_each}
 use Rattle.rel_lang.specs.Syntax as syntax
 use Rattle.rel_lang.specs.Syntax.{Word, Ty, Int, Rgn, Class, Decl, Expression, Var, Num, Null, Add, Old, Formula, True, Eq, Lt, Command, At, Form, Skip, Assign, Load, Store, New, Call, If, While, Block, End, Then, Image}
-use Rattle.rel_lang.specs.State.{Tables, Value, Number, Reference, Objects, Owner, ByInterface, ByModule, ByClient, ByCall, State, has_field, set_variable, with_object, Scope}
-use Rattle.rel_lang.specs.Scope.{Setting, post_scope, body_scope, result_name, init_setting}
+use Rattle.rel_lang.specs.State.{Tables, Value, Number, Reference, Objects, Owner, ByInterface, ByModule, ByClient, ByCall, State, has_field, set_variable, with_object, Scope, write_variable, find_variable, is_variable}
+use Rattle.rel_lang.specs.Scope.{Setting, post_scope, body_scope, result_name, init_setting, method_setting}
 use Rattle.rel_lang.specs.Typed.{IsAmong, AreDistinct, HasType, IsTypedFormula, Signature, Names, IsTypedCommand, IsTypedSpec, IsTypedModule, IsTypedClient}
 use Rattle.rel_lang.specs.Truth.{quantified, with_quantified, holds}
-use Rattle.rel_lang.specs.Run.{Picks, Outcome, Done, Fault, Out, NoPick, unwatched, Program, code_of, begin, run_of}
+use Rattle.rel_lang.specs.Run.{Picks, Outcome, Done, Fault, Out, NoPick, unwatched, Program, code_of, begin, run_of, Code, module_program}
 use Rattle.rel_lang.specs.Relation.{IsBijection, related_regions, related, objects_with, agree_image}
 use Rattle.rel_lang.specs.Linked.{linked, strict}
+use Rattle.rel_lang.specs.Value.{value_of}
+use Rattle.rel_lang.specs.Meets.{Contract, IsStart, EndsWell, RunsWell, init_contract, method_contract}
+use Rattle.rel_lang.specs.Good.{IsGood}
+use Rattle.rel_lang.proofs.Values.{each_is_within}
 
 -- ---- a class with two fields, three variables, and a procedure
 
@@ -343,3 +347,68 @@ no_old_before sc e t typed = true≢false (sym typed.0)
 
 no_int_image : (sc : Scope) (g : Expression) (t : Ty) → ¬ (HasType tables true sc (Image g f) t)
 no_int_image sc g t typed = typed.1 refl
+
+-- ---- a good module
+
+end_runs : (q : Program) (n : ℕ) (c : Code) (s : State) (k : Picks) → run_of q n c End s k ≡ Done s k
+end_runs q zero c s k = refl
+end_runs q (suc n) c s k = refl
+
+assign_runs : (q : Program) (n : ℕ) (c : Code) (z : Word) (e : Expression) (s : State) (k : Picks)
+    → run_of q n c (one (At 0 (Assign z e))) s k ≡ Done (write_variable (find_variable z c.scope) (value_of q.tables c.scope e s s) s) k
+assign_runs q zero c z e s k = refl
+assign_runs q (suc n) c z e s k = refl
+
+-- a run that is done in a state that ends well
+runs_well : (c : Contract) (entry t : State) (j : Picks) (run : Outcome) → run ≡ Done t j → EndsWell tables c entry t → RunsWell tables c entry run
+runs_well c entry t j run is well = record {
+  safe = λ fault. done_is_no_fault (sym is ∙ fault);
+  ends = λ u k done. subst (EndsWell tables c entry) (state_is (sym is ∙ done)) well;
+}
+  where
+    done_is_no_fault : {s : State} {k : Picks} → Done s k ≡ Fault → ⊥
+    done_is_no_fault e = cc
+
+    state_is : {s r : State} {k i : Picks} → Done s k ≡ Done r i → s ≡ r
+    state_is e = cc
+
+all_within : (g : Region) → IsTrue (is_within g g)
+all_within g = each_is_within g g (λ o e. e)
+
+-- a variable that may not change isn't the one that is written
+unwritten : (b : Bool) (v w : Value) → IsFalse (b || false) → (if b then v else w) ≡ w
+unwritten true v w h = absurd (true≢false h)
+unwritten false v w h = refl
+
+init_ends : (s : State) → IsStart tables (init_contract store kept) s → EndsWell tables (init_contract store kept) s s
+init_ends s start = record {
+  formed = start.formed;
+  grown = all_within s.alloc;
+  ensures = (refl, (refl, tt));
+  changes = record { variables = λ o z other may. refl; locations = λ o g inside may. refl };
+}
+
+abbrev set_body : syntax.Body
+set_body = body (one (At 0 (Assign y (Num (pos 1)))))
+
+abbrev set_method : syntax.Sig
+set_method = record { at = 0; name = p; params = []; result = Int; spec = nothing_said }
+
+abbrev before : State → State
+before s = begin (method_setting store kept set_method set_body) s
+
+method_ends : (s : State) → IsStart tables (method_contract store kept set_method set_body) s
+    → EndsWell tables (method_contract store kept set_method set_body) (before s) (set_variable (ByModule (codes "same")) y (Number (pos 1)) (before s))
+method_ends s start = record {
+  formed = record { variables = (start.formed.variables.0, (refl, (refl, tt))); locations = start.formed.locations };
+  grown = all_within s.alloc;
+  ensures = (refl, (refl, tt));
+  changes = record { variables = λ o z other may. unwritten (is_variable o z (record { name = y; owner = ByModule (codes "same"); ty = Int; is_assignable = true })) _ _ may; locations = λ o g inside may. refl };
+}
+
+kept_is_good : IsGood tables store kept
+kept_is_good = record {
+  framed = λ s t formed later same holds. refl;
+  init = λ s start n k. runs_well (init_contract store kept) s s k _ (end_runs (module_program tables) n (code_of (init_setting store kept) false) s k) (init_ends s start);
+  methods = ((λ s start n k. runs_well (method_contract store kept set_method set_body) (before s) _ k _ (assign_runs (module_program tables) n (code_of (method_setting store kept set_method set_body) false) y (Num (pos 1)) (before s) k) (method_ends s start)), tt);
+}
