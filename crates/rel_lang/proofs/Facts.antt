@@ -1,5 +1,5 @@
 -- What small programs do, and when small formulas are true.
-use Rattle.std.proofs.Common.{List, ◌≡◌, ℕ, ℤ, pos, Bool, true, false, ◌&&◌, ◌||◌, true≢false, IsTrue, [], ◌∷◌, Some, None, refl, sym, ap, ◌∙◌, rules, not, ⊎_elim, inl, zero, suc, IsFalse, subst, if◌then◌else◌}
+use Rattle.std.proofs.Common.{List, ◌≡◌, ℕ, ℤ, pos, Bool, true, false, ◌&&◌, ◌||◌, true≢false, IsTrue, [], ◌∷◌, Some, None, refl, sym, ap, ◌∙◌, rules, not, ⊎_elim, inl, zero, suc, IsFalse, subst, if◌then◌else◌, ◌≢◌, ◌++◌}
 use Rattle.std.specs.Prelude.{codes, bytes_eq}
 use Rattle.std.proofs.lemmas.Slice.Eq.{bytes_eq-Decides}
 use Rattle.std.specs.Ordering.{is_eq}
@@ -13,17 +13,21 @@ use Rattle.rel_list.proofs.Sets.{and_both}
 use Rattle.rel_list.proofs.Regions.{retained, matched_is_each}
 use Rattle.rel_lang.specs.Syntax as syntax
 use Rattle.rel_lang.specs.Syntax.{Word, Ty, Int, Rgn, Class, Decl, Expression, Var, Num, Null, Add, Old, Formula, True, Eq, Lt, Command, At, Form, Skip, Assign, Load, Store, New, Call, If, While, Block, End, Then, Image}
-use Rattle.rel_lang.specs.State.{Tables, Value, Number, Reference, Objects, Owner, ByInterface, ByModule, ByClient, ByCall, State, has_field, set_variable, with_object, Scope, write_variable, find_variable, is_variable}
-use Rattle.rel_lang.specs.Scope.{Setting, post_scope, body_scope, result_name, init_setting, method_setting}
+use Rattle.rel_lang.specs.State.{Tables, Value, Number, Reference, Objects, Owner, ByInterface, ByModule, ByClient, ByCall, State, has_field, set_variable, with_object, Scope, write_variable, find_variable, is_variable, ByUnit, ByQuantifier, fits_type, value_in, with_defaults}
+use Rattle.rel_lang.specs.Scope.{Setting, post_scope, body_scope, result_name, init_setting, method_setting, client_setting, module_globals, declared}
 use Rattle.rel_lang.specs.Typed.{IsAmong, AreDistinct, HasType, IsTypedFormula, Signature, Names, IsTypedCommand, IsTypedSpec, IsTypedModule, IsTypedClient}
 use Rattle.rel_lang.specs.Truth.{quantified, with_quantified, holds}
-use Rattle.rel_lang.specs.Run.{Picks, Outcome, Done, Fault, Out, NoPick, unwatched, Program, code_of, begin, run_of, Code, module_program}
+use Rattle.rel_lang.specs.Run.{Picks, Outcome, Done, Fault, Out, NoPick, unwatched, Program, code_of, begin, run_of, Code, module_program, and_then}
 use Rattle.rel_lang.specs.Relation.{IsBijection, related_regions, related, objects_with, agree_image}
-use Rattle.rel_lang.specs.Linked.{linked, strict}
+use Rattle.rel_lang.specs.Linked.{linked, strict, linked_program, client_watch}
 use Rattle.rel_lang.specs.Value.{value_of}
-use Rattle.rel_lang.specs.Meets.{Contract, IsStart, EndsWell, RunsWell, init_contract, method_contract}
+use Rattle.rel_lang.specs.Meets.{Contract, IsStart, EndsWell, RunsWell, init_contract, method_contract, main_contract}
 use Rattle.rel_lang.specs.Good.{IsGood}
 use Rattle.rel_lang.proofs.Values.{each_is_within}
+use Rattle.std.specs.List.{AllByRecursion, list_any}
+use Rattle.rel_lang.specs.Respects.{IsLinkedStart, Respects}
+use Rattle.rel_lang.proofs.Writes.{all_append}
+use Rattle.rel_lang.proofs.Growth.{defaults_allocate_none}
 
 -- ---- a class with two fields, three variables, and a procedure
 
@@ -411,4 +415,113 @@ kept_is_good = record {
   framed = λ s t formed later same holds. refl;
   init = λ s start n k. runs_well (init_contract store kept) s s k _ (end_runs (module_program tables) n (code_of (init_setting store kept) false) s k) (init_ends s start);
   methods = ((λ s start n k. runs_well (method_contract store kept set_method set_body) (before s) _ k _ (assign_runs (module_program tables) n (code_of (method_setting store kept set_method set_body) false) y (Num (pos 1)) (before s) k) (method_ends s start)), tt);
+}
+
+-- ---- a client that respects the interface
+
+abbrev idle : syntax.Client
+idle = user Int End
+
+abbrev idle_setting : Setting
+idle_setting = client_setting store idle (main End)
+
+idle_is_typed : IsTypedClient tables store idle
+idle_is_typed = record {
+  interface = refl;
+  types = (tt, tt);
+  names = distinct (result_name ∷ x ∷ y ∷ []) refl;
+  proc_names = distinct (codes "main" ∷ p ∷ []) refl;
+  main = refl;
+  procs = (
+    record {
+      params = tt;
+      result = tt;
+      spec = nothing_is_typed _;
+      body = record { names = distinct (x ∷ y ∷ result_name ∷ []) refl; locals = tt; commands = tt };
+    },
+    tt,
+  );
+}
+
+-- a client's variable is none of the module's
+client_apart_from : (n k : Word) (z : Word) (ds : List Decl) → list_any (is_variable (ByClient n) z) (declared (ByModule k) true ds) ≡ false
+client_apart_from n k z [] = refl
+client_apart_from n k z (d ∷ ds) = client_apart_from n k z ds
+
+-- a call's `result` is no other variable
+begun : (o : Owner) (z : Word) (t : State) → o ≢ ByCall → (begin idle_setting t).vars o z ≡ t.vars o z
+begun (ByInterface n) z t other = refl
+begun (ByModule n) z t other = refl
+begun (ByUnit n) z t other = refl
+begun (ByClient n) z t other = refl
+begun ByCall z t other = absurd (other refl)
+begun ByQuantifier z t other = refl
+
+module _ (m : syntax.Module) (good : IsGood tables store m) (s : State) (start : IsLinkedStart tables store m idle (main End) s) where
+  nothing_more : (vs : Scope) → AllByRecursion (λ v. IsTrue (fits_type tables v.ty s.alloc (value_in s v))) vs → AllByRecursion (λ v. IsTrue (fits_type tables v.ty s.alloc (value_in s v))) (vs ++ [])
+  nothing_more vs h = all_append _ vs [] h tt
+
+  init_start : IsStart tables (init_contract store m) s
+  init_start = record {
+    formed = record { variables = (start.start.formed.variables.0, nothing_more (module_globals m) start.inside.variables); locations = start.start.formed.locations };
+    defaults = start.start.defaults;
+    requires = tt;
+  }
+
+  abbrev init_entry : State
+  init_entry = begin (init_setting store m) s
+
+  -- init's locals are a call's too
+  init_begun : (vs : List Decl) (o : Owner) (z : Word) → o ≢ ByCall → (with_defaults (declared ByCall true vs ++ []) s).vars o z ≡ s.vars o z
+  init_begun [] o z other = refl
+  init_begun (d ∷ ds) (ByInterface n) z other = init_begun ds (ByInterface n) z other
+  init_begun (d ∷ ds) (ByModule n) z other = init_begun ds (ByModule n) z other
+  init_begun (d ∷ ds) (ByUnit n) z other = init_begun ds (ByUnit n) z other
+  init_begun (d ∷ ds) (ByClient n) z other = init_begun ds (ByClient n) z other
+  init_begun (d ∷ ds) ByCall z other = absurd (other refl)
+  init_begun (d ∷ ds) ByQuantifier z other = init_begun ds ByQuantifier z other
+
+  main_ends : (t : State) → EndsWell tables (init_contract store m) init_entry t → EndsWell tables (main_contract store m idle (main End)) (begin idle_setting s) (begin idle_setting t)
+  main_ends t ends = record {
+    formed = record {
+      variables = (ends.formed.variables.0, (subst (λ v. IsTrue (fits_type tables Int t.alloc v)) (sym own_is) (int_fits (value_in s (record { name = y; owner = ByClient (codes "same"); ty = Int; is_assignable = true })) s.alloc t.alloc start.start.formed.variables.1.0), (refl, tt)));
+      locations = ends.formed.locations;
+    };
+    grown = subst (λ g. IsTrue (is_within g t.alloc)) (defaults_allocate_none (declared ByCall true m.init.locals ++ []) s) ends.grown;
+    ensures = (refl, tt);
+    changes = record {
+      variables = λ o z other may. begun o z t other ∙ ends.changes.variables o z other may ∙ init_begun m.init.locals o z other ∙ sym (begun o z s other);
+      locations = λ o g inside may. ends.changes.locations o g (subst (λ a. IsTrue (is_in o a)) (sym (defaults_allocate_none (declared ByCall true m.init.locals ++ []) s)) inside) refl ∙ heap_is m.init.locals o g;
+    };
+  }
+    where
+      int_fits : (v : Value) (g h : Region) → IsTrue (fits_type tables Int g v) → IsTrue (fits_type tables Int h v)
+      int_fits (Number n) g h e = refl
+      int_fits (Reference r) g h e = cc
+      int_fits (Objects k) g h e = cc
+
+      own_is : t.vars (ByClient (codes "same")) y ≡ s.vars (ByClient (codes "same")) y
+      own_is = ends.changes.variables (ByClient (codes "same")) y (λ e. cc) (client_apart_from (codes "same") m.name y m.globals) ∙ init_begun m.init.locals (ByClient (codes "same")) y (λ e. cc)
+
+      heap_is : (ds : List Decl) (o : Obj) (g : Word) → (with_defaults (declared ByCall true ds ++ []) s).heap o g ≡ s.heap o g
+      heap_is [] o g = refl
+      heap_is (d ∷ ds) o g = heap_is ds o g
+
+  idle_runs : (n : ℕ) (k : Picks) → RunsWell tables (main_contract store m idle (main End)) (begin idle_setting s) (strict tables store m idle (main End) n s k)
+  idle_runs n k = after (run_of (module_program tables) n (code_of (init_setting store m) false) m.init.commands init_entry k) (good.init s init_start n k)
+    where
+      after : (a : Outcome) → RunsWell tables (init_contract store m) init_entry a → RunsWell tables (main_contract store m idle (main End)) (begin idle_setting s)
+          (and_then a (λ t j. run_of (linked_program tables store m idle (client_watch tables store)) n (code_of idle_setting true) End (begin idle_setting t) j))
+      after (Done t j) well =
+          runs_well (main_contract store m idle (main End)) (begin idle_setting s) (begin idle_setting t) j _
+          (end_runs (linked_program tables store m idle (client_watch tables store)) n (code_of idle_setting true) (begin idle_setting t) j) (main_ends t (well.ends t j refl))
+      after Fault well = absurd (well.safe refl)
+      after Out well = record { safe = λ e. cc; ends = λ t j e. cc }
+      after NoPick well = record { safe = λ e. cc; ends = λ t j e. cc }
+
+idle_respects : Respects tables store idle
+idle_respects = record {
+  typed = idle_is_typed;
+  apart = (tt, tt);
+  runs = λ m typed good s start n k. idle_runs m good s start n k;
 }
