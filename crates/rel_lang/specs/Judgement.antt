@@ -1,58 +1,48 @@
 -- When a judgement is true.
-use Rattle.std.specs.Prelude.{◌≡◌, ◌≢◌, ℕ, if◌then◌else◌, List, [], ◌∷◌, Option, Some, None, bytes_eq, option_map, option_and_then}
+use Rattle.std.specs.Prelude.{◌≡◌, ◌≢◌, ℕ, false, IsSomeAnd}
 use Rattle.rel_list.specs.Pairs.{Pairs, Extends}
-use Rattle.rel_lang.specs.Syntax.{Word, Proc, UnitItem, Judgement, Item, unit, judge, Bundle}
-use Rattle.rel_lang.specs.State.{State, Field, IsWellFormed}
-use Rattle.rel_lang.specs.Run.{Program, program_of, pre_scope, post_scope, Picks, Outcome, finished, fault, body_run}
-use Rattle.rel_lang.specs.Relation.{IsBijection, RelHolds}
+use Rattle.rel_lang.specs.Syntax.{Judgement, Bundle}
+use Rattle.rel_lang.specs.State.{Tables, tables_of, State, IsWellFormed}
+use Rattle.rel_lang.specs.Scope.{Setting, pre_scope, post_scope, unit_setting}
+use Rattle.rel_lang.specs.Lookup.{Subject, subject_of}
+use Rattle.rel_lang.specs.Run.{Picks, Outcome, Done, Fault, code_of, begin, run_of, unit_program}
+use Rattle.rel_lang.specs.Relation.{IsBijection, Moment, at_entry, RelHolds}
 
--- a procedure, in the program that it belongs to
-pub record Subject : Type 0 where
-  pub program : Program
-  pub proc : Proc
+abbrev pub setting_of : Subject → Setting
+setting_of x = unit_setting x.unit x.proc
 
-abbrev pub find_unit : Word → List Item → Option UnitItem
-find_unit x [] = None
-find_unit x (unit u ∷ is) = if bytes_eq x u.name then Some u else find_unit x is
-find_unit x (judge j ∷ is) = find_unit x is
+abbrev pub subject_run : Tables → Subject → ℕ → State → Picks → Outcome
+subject_run tables x n s k = run_of (unit_program tables x.unit) n (code_of (setting_of x) false) x.proc.body.commands (begin (setting_of x) s) k
 
-abbrev pub find_proc : Word → List Proc → Option Proc
-find_proc x [] = None
-find_proc x (p ∷ ps) = if bytes_eq x p.name then Some p else find_proc x ps
+-- the end of a run that started in s, as the postcondition sees it
+abbrev pub at_end : Subject → State → State → Moment
+at_end x s t = record { scope = post_scope (setting_of x); entry = begin (setting_of x) s; now = t }
 
--- the procedure of the unit, by their names
-abbrev pub subject_of : Bundle → Word × Word → Option Subject
-subject_of b w = option_and_then (λ u. option_map (λ p. record { program = program_of u; proc = p }) (find_proc w.1 u.procs)) (find_unit w.0 b.items)
-
--- the fields of the bundle's classes, of which this language has none yet
-abbrev pub fields_of : Bundle → List Field
-fields_of b = []
-
-abbrev pub subject_run : Subject → ℕ → State → Picks → Outcome
-subject_run x n s k = body_run x.program x.proc n s k
-
--- some extension of the bijection is one of the final states and satisfies the postcondition
-pub record EndsRelated (l r : Subject) (j : Judgement) (s s' t t' : State) (q : Pairs) : Type 0 where
+-- Some extension of the bijection is one of the final states and satisfies the postcondition.
+pub record EndsRelated (tables : Tables) (j : Judgement) (l r : Subject) (s s' t t' : State) (q : Pairs) : Type 0 where
   pub more : Pairs
   pub extends : Extends q more
   pub bijection : IsBijection more t t'
-  pub gives : RelHolds (post_scope l.program l.proc) (post_scope r.program r.proc) s s' t t' j.gives.formula more
+  pub gives : RelHolds tables j.gives.formula (at_end l s t) (at_end r s' t') more
 
--- neither side is a fault, whatever the other does, and where both end they end related
-pub record RunRelated (l r : Subject) (j : Judgement) (s s' : State) (q : Pairs) (left right : Outcome) : Type 0 where
-  pub left_safe : left ≢ fault
-  pub right_safe : right ≢ fault
-  pub related : (t t' : State) (k k' : Picks) → left ≡ finished t k → right ≡ finished t' k' → EndsRelated l r j s s' t t' q
+-- Neither side is a fault, whatever the other does, and where both are done they end related.
+pub record RunRelated (tables : Tables) (j : Judgement) (l r : Subject) (s s' : State) (q : Pairs) (left right : Outcome) : Type 0 where
+  pub left_safe : left ≢ Fault
+  pub right_safe : right ≢ Fault
+  pub related : (t t' : State) (k k' : Picks) → left ≡ Done t k → right ≡ Done t' k' → EndsRelated tables j l r s s' t t' q
 
--- from every two well-formed states that are related by the precondition, under every bijection of them, at every two bounds, with all picks
-abbrev pub IsTrueOf : List Field → Judgement → Subject → Subject → Type 0
-IsTrueOf fields j l r =
-    (s s' : State) (q : Pairs)
-    → IsWellFormed fields (pre_scope l.program l.proc) s
-    → IsWellFormed fields (pre_scope r.program r.proc) s'
-    → IsBijection q s s'
-    → RelHolds (pre_scope l.program l.proc) (pre_scope r.program r.proc) s s' s s' j.needs.formula q
-    → (n n' : ℕ) (k k' : Picks) → RunRelated l r j s s' q (subject_run l n s k) (subject_run r n' s' k')
+-- two states in which the two sides may start, under a bijection of them
+pub record AreStarts (tables : Tables) (j : Judgement) (l r : Subject) (s s' : State) (q : Pairs) : Type 0 where
+  pub left_formed : IsWellFormed tables (pre_scope (setting_of l)) s
+  pub right_formed : IsWellFormed tables (pre_scope (setting_of r)) s'
+  pub bijection : IsBijection q s s'
+  pub needs : RelHolds tables j.needs.formula (at_entry (pre_scope (setting_of l)) s) (at_entry (pre_scope (setting_of r)) s') q
+
+-- from every two starts, at every two bounds and with all picks
+abbrev pub IsTrueOf : Tables → Judgement → Subject → Subject → Type 0
+IsTrueOf tables j l r =
+    (s s' : State) (q : Pairs) → AreStarts tables j l r s s' q
+    → (n n' : ℕ) (k k' : Picks) → RunRelated tables j l r s s' q (subject_run tables l n s k) (subject_run tables r n' s' k')
 
 abbrev pub IsTrueJudgement : Bundle → Judgement → Type 0
-IsTrueJudgement b j = (l r : Subject) → subject_of b j.left ≡ Some l → subject_of b j.right ≡ Some r → IsTrueOf (fields_of b) j l r
+IsTrueJudgement b j = IsSomeAnd (subject_of b j.left) (λ l. IsSomeAnd (subject_of b j.right) (λ r. IsTrueOf (tables_of b) j l r))

@@ -1,25 +1,32 @@
 //! Bundles and the items in them.
 
-ghost use Rattle.std.specs.Prelude.{◌≡◌, IfOk};
 
 use crate::biprogram::Align;
 use crate::command::Command;
-use crate::expr::Ty;
+use crate::expr::{Expr, Ty};
 use crate::formula::Formula;
 use crate::relation::RelFormula;
-use rel_list::{Copies, List, Memory, Name, both};
+use rel_list::{Boxed, List, Name};
 
-/// A variable with its type.
+/// A variable or a field with its type.
 #[derive(Drop)]
 pub struct Decl {
     pub name: Name,
     pub ty: Ty,
 }
 
+/// The locations of a field in the objects of a region.
+#[derive(Drop)]
+pub struct Place {
+    pub region: Expr,
+    pub field: Name,
+}
+
 /// What a procedure may change.
 #[derive(Drop)]
 pub enum Effect {
     Var(Name),
+    At(Place),
 }
 
 /// A formula, and the byte where it begins.
@@ -44,7 +51,7 @@ pub struct Spec {
     pub writes: List<Effect>,
 }
 
-/// The body of a procedure. Its `at` is that of the word `proc`.
+/// The body of a procedure, a method or an init. Its `at` is that of the word `proc`, `method` or `init`.
 #[derive(Drop)]
 pub struct Body {
     pub at: u32,
@@ -62,10 +69,60 @@ pub struct Proc {
     pub body: Body,
 }
 
+/// A method of an interface.
+#[derive(Drop)]
+pub struct Sig {
+    pub at: u32,
+    pub name: Name,
+    pub params: List<Decl>,
+    pub result: Ty,
+    pub spec: Spec,
+}
+
+#[derive(Drop)]
+pub struct Class {
+    pub at: u32,
+    pub name: Name,
+    pub fields: List<Decl>,
+}
+
+/// `boundary_at` is the byte of the word `boundary`.
+#[derive(Drop)]
+pub struct Interface {
+    pub at: u32,
+    pub name: Name,
+    pub globals: List<Decl>,
+    pub boundary_at: u32,
+    pub boundary: List<Place>,
+    pub init_ensures: Clause,
+    pub init_writes: List<Effect>,
+    pub methods: List<Sig>,
+}
+
+#[derive(Drop)]
+pub struct Module {
+    pub at: u32,
+    pub name: Name,
+    pub interface: Name,
+    pub globals: List<Decl>,
+    pub invariant: Clause,
+    pub init: Body,
+    pub methods: List<(Name, Body)>,
+}
+
 #[derive(Drop)]
 pub struct UnitItem {
     pub at: u32,
     pub name: Name,
+    pub globals: List<Decl>,
+    pub procs: List<Proc>,
+}
+
+#[derive(Drop)]
+pub struct Client {
+    pub at: u32,
+    pub name: Name,
+    pub interface: Name,
     pub globals: List<Decl>,
     pub procs: List<Proc>,
 }
@@ -82,177 +139,30 @@ pub struct Judgement {
     pub align: Align,
 }
 
+/// The modules `left` and `right`, and how their inits and methods are aligned, each with the byte of its word `init` or `method`.
+#[derive(Drop)]
+pub struct Pair {
+    pub at: u32,
+    pub name: Name,
+    pub left: Name,
+    pub right: Name,
+    pub coupling: RelClause,
+    pub init: (u32, Align),
+    pub methods: List<(u32, Name, Align)>,
+}
+
 #[derive(Drop)]
 pub enum Item {
+    Class(Class),
+    Interface(Interface),
+    Module(Module),
     UnitItem(UnitItem),
+    Client(Client),
     Judge(Judgement),
+    Pair(Pair),
 }
 
 #[derive(Drop)]
 pub struct Bundle {
     pub items: List<Item>,
-}
-
-impl Decl {
-    pub fn copy(&self) -> Result<Decl, Memory>
-        ensures { IfOk result (λ d. d ≡ self.now) }
-    {
-        Ok(Decl {
-            name: self.name.copy()?,
-            ty: self.ty,
-        })
-    }
-}
-
-impl Copies for Decl {
-    fn copied(&self) -> Result<Decl, Memory> {
-        self.copy()
-    }
-}
-
-impl Effect {
-    pub fn copy(&self) -> Result<Effect, Memory>
-        ensures { IfOk result (λ e. e ≡ self.now) }
-    {
-        match self {
-            Effect::Var(name) => Ok(Effect::Var(name.copy()?)),
-        }
-    }
-}
-
-impl Copies for Effect {
-    fn copied(&self) -> Result<Effect, Memory> {
-        self.copy()
-    }
-}
-
-impl Clause {
-    pub fn copy(&self) -> Result<Clause, Memory>
-        ensures { IfOk result (λ c. c ≡ self.now) }
-    {
-        Ok(Clause {
-            at: self.at,
-            formula: self.formula.copy()?,
-        })
-    }
-}
-
-impl RelClause {
-    pub fn copy(&self) -> Result<RelClause, Memory>
-        ensures { IfOk result (λ c. c ≡ self.now) }
-    {
-        Ok(RelClause {
-            at: self.at,
-            formula: self.formula.copy()?,
-        })
-    }
-}
-
-impl Spec {
-    pub fn copy(&self) -> Result<Spec, Memory>
-        ensures { IfOk result (λ s. s ≡ self.now) }
-    {
-        let (needs, gives) = both(self.needs.copy(), self.gives.copy())?;
-        Ok(Spec {
-            needs,
-            gives,
-            writes: self.writes.copied()?,
-        })
-    }
-}
-
-impl Body {
-    pub fn copy(&self) -> Result<Body, Memory>
-        ensures { IfOk result (λ b. b ≡ self.now) }
-    {
-        let (locals, commands) = both(self.locals.copied(), self.commands.copied())?;
-        Ok(Body {
-            at: self.at,
-            locals,
-            commands,
-        })
-    }
-}
-
-impl Proc {
-    pub fn copy(&self) -> Result<Proc, Memory>
-        ensures { IfOk result (λ p. p ≡ self.now) }
-    {
-        let (name, params) = both(self.name.copy(), self.params.copied())?;
-        let (spec, body) = both(self.spec.copy(), self.body.copy())?;
-        Ok(Proc {
-            at: self.at,
-            name,
-            params,
-            result: self.result,
-            spec,
-            body,
-        })
-    }
-}
-
-impl Copies for Proc {
-    fn copied(&self) -> Result<Proc, Memory> {
-        self.copy()
-    }
-}
-
-impl UnitItem {
-    pub fn copy(&self) -> Result<UnitItem, Memory>
-        ensures { IfOk result (λ u. u ≡ self.now) }
-    {
-        let (globals, procs) = both(self.globals.copied(), self.procs.copied())?;
-        Ok(UnitItem {
-            at: self.at,
-            name: self.name.copy()?,
-            globals,
-            procs,
-        })
-    }
-}
-
-impl Judgement {
-    pub fn copy(&self) -> Result<Judgement, Memory>
-        ensures { IfOk result (λ j. j ≡ self.now) }
-    {
-        let (left, right) = both(self.left.copied(), self.right.copied())?;
-        let (needs, gives) = both(self.needs.copy(), self.gives.copy())?;
-        let (name, align) = both(self.name.copy(), self.align.copy())?;
-        Ok(Judgement {
-            at: self.at,
-            name,
-            left,
-            right,
-            needs,
-            gives,
-            align,
-        })
-    }
-}
-
-impl Item {
-    pub fn copy(&self) -> Result<Item, Memory>
-        ensures { IfOk result (λ i. i ≡ self.now) }
-    {
-        match self {
-            Item::UnitItem(unit) => Ok(Item::UnitItem(unit.copy()?)),
-            Item::Judge(judgement) => Ok(Item::Judge(judgement.copy()?)),
-        }
-    }
-}
-
-impl Copies for Item {
-    fn copied(&self) -> Result<Item, Memory> {
-        self.copy()
-    }
-}
-
-impl Bundle {
-    pub fn copy(&self) -> Result<Bundle, Memory>
-        ensures { IfOk result (λ b. b ≡ self.now) }
-    {
-        Ok(Bundle {
-            items: self.items.copied()?,
-        })
-    }
 }

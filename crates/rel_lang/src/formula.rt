@@ -1,36 +1,23 @@
 //! Formulas about one state.
 
-ghost use Rattle.std.specs.Prelude.{◌≡◌, ◌↔◌, IfOk, IsTrue};
-ghost use Rattle.rel_lang.specs.View.{frm_of};
 
-use rel_list::{Copies, Memory};
+use crate::expr::Expr;
+use rel_list::{Boxed, List, Name};
 
+/// A formula. A quantifier has the variable, its class, the region that it ranges over, and the body.
 #[derive(Drop)]
 pub enum Formula {
     True,
-}
-
-impl Formula {
-    pub fn copy(&self) -> Result<Formula, Memory>
-        ensures { IfOk result (λ p. p ≡ self.now) }
-    {
-        match self {
-            Formula::True => Ok(Formula::True),
-        }
-    }
-}
-
-impl Copies for Formula {
-    fn copied(&self) -> Result<Formula, Memory> {
-        self.copy()
-    }
-}
-
-/// Whether the two are equal.
-pub fn same_formula(a: &Formula, b: &Formula) -> bool
-    ensures { IsTrue result ↔ (frm_of a.now ≡ frm_of b.now) }
-{
-    match (a, b) {
-        (Formula::True, Formula::True) => true,
-    }
+    False,
+    Eq(Expr, Expr),
+    Lt(Expr, Expr),
+    Le(Expr, Expr),
+    Member(Expr, Expr),
+    Subset(Expr, Expr),
+    Not(Boxed<Formula>),
+    And(Boxed<Formula>, Boxed<Formula>),
+    Or(Boxed<Formula>, Boxed<Formula>),
+    Implies(Boxed<Formula>, Boxed<Formula>),
+    Every(Name, Name, Expr, Boxed<Formula>),
+    Exists(Name, Name, Expr, Boxed<Formula>),
 }

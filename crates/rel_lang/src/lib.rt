@@ -6,4 +6,5 @@ pub mod bundle;
 pub mod command;
 pub mod expr;
 pub mod formula;
+pub mod laws;
 pub mod relation;

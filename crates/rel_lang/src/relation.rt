@@ -1,28 +1,26 @@
 //! Formulas about two states and a bijection of their references.
 
-ghost use Rattle.std.specs.Prelude.{◌≡◌, IfOk};
 
-use crate::expr::Expr;
-use rel_list::{Copies, Memory};
+use crate::expr::{Expr, Side};
+use crate::formula::Formula;
+use rel_list::{Boxed, List, Name};
 
+/// A relation formula. `Agree` relates the value of the first on the left to that of the second on the right. A quantifier has the side
+/// of its variable, the variable, its class, the region that it ranges over, and the body.
 #[derive(Drop)]
 pub enum RelFormula {
-    /// The value of the first on the left is related to that of the second on the right.
+    True,
+    False,
+    OnLeft(Formula),
+    OnRight(Formula),
+    Both(Formula),
     Agree(Expr, Expr),
-}
-
-impl RelFormula {
-    pub fn copy(&self) -> Result<RelFormula, Memory>
-        ensures { IfOk result (λ r. r ≡ self.now) }
-    {
-        match self {
-            RelFormula::Agree(e, f) => Ok(RelFormula::Agree(e.copy()?, f.copy()?)),
-        }
-    }
-}
-
-impl Copies for RelFormula {
-    fn copied(&self) -> Result<RelFormula, Memory> {
-        self.copy()
-    }
+    AgreeImage(Expr, Name),
+    Not(Boxed<RelFormula>),
+    And(Boxed<RelFormula>, Boxed<RelFormula>),
+    Or(Boxed<RelFormula>, Boxed<RelFormula>),
+    Implies(Boxed<RelFormula>, Boxed<RelFormula>),
+    Every(Side, Name, Name, Expr, Boxed<RelFormula>),
+    Exists(Side, Name, Name, Expr, Boxed<RelFormula>),
+    Eventually(Boxed<RelFormula>),
 }

@@ -32,10 +32,10 @@ regions_are_sets = set.same_set obj_total obj_alone
 pub union_has_both : (g h : Region) (o : Obj) → is_in o (set.union g h) ≡ (is_in o g || is_in o h)
 union_has_both = set.contains-union obj_total
 
-ties : (q x : Obj) → eq_by_cmp obj_cmp q x ≡ true → q ≡ x
+pub ties : (q x : Obj) → eq_by_cmp obj_cmp q x ≡ true → q ≡ x
 ties q x e = obj_alone q x (elim (obj_cmp q x) as (λ r. is_eq r ≡ true → r ≡ Equal) [ Less ↦ λ f. cc | Equal ↦ λ f. refl | Greater ↦ λ f. cc ] e)
 
-tied : (x : Obj) → eq_by_cmp obj_cmp x x ≡ true
+pub tied : (x : Obj) → eq_by_cmp obj_cmp x x ≡ true
 tied x = ap is_eq (tied_itself obj_total x)
 
 pub and_both : (a b : Bool) → (a && b) ≡ true → (a ≡ true) × (b ≡ true)
@@ -47,13 +47,13 @@ or_one true b e = inl refl
 or_one false b e = inr e
 
 -- a test of all items is one of all members
-all_any : (f : Obj → Bool) (xs : List Obj) → list_all f xs ≡ true → (q : Obj) → list_any (eq_by_cmp obj_cmp q) xs ≡ true → f q ≡ true
+pub all_any : (f : Obj → Bool) (xs : List Obj) → list_all f xs ≡ true → (q : Obj) → list_any (eq_by_cmp obj_cmp q) xs ≡ true → f q ≡ true
 all_any f [] all q one = cc
 all_any f (x ∷ xs) all q one =
     let h = and_both _ _ all in
     ⊎_elim (λ e. ap f (ties q x e) ∙ h.0) (all_any f xs h.1 q) (or_one _ _ one)
 
-any_all : (f : Obj → Bool) (xs : List Obj) → ((q : Obj) → list_any (eq_by_cmp obj_cmp q) xs ≡ true → f q ≡ true) → list_all f xs ≡ true
+pub any_all : (f : Obj → Bool) (xs : List Obj) → ((q : Obj) → list_any (eq_by_cmp obj_cmp q) xs ≡ true → f q ≡ true) → list_all f xs ≡ true
 any_all f [] each = refl
 any_all f (x ∷ xs) each =
     ap (λ b. b && list_all f xs) (each x (ap (λ b. b || list_any (eq_by_cmp obj_cmp x) xs) (tied x)))
