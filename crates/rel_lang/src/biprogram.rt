@@ -1,10 +1,9 @@
 //! Biprograms: how the commands of two programs go together.
 
-
 use crate::command::Command;
 use crate::formula::Formula;
 use crate::relation::RelFormula;
-use rel_list::{Boxed, List, Name};
+use rel_list::{List, Name};
 
 /// A command of a biprogram, and the byte where it begins.
 #[cycle(bicommand)]

@@ -1,12 +1,11 @@
 //! Bundles and the items in them.
 
-
 use crate::biprogram::Align;
 use crate::command::Command;
 use crate::expr::{Expr, Ty};
 use crate::formula::Formula;
 use crate::relation::RelFormula;
-use rel_list::{Boxed, List, Name};
+use rel_list::{List, Name};
 
 /// A variable or a field with its type.
 #[derive(Drop)]

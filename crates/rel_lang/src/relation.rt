@@ -1,9 +1,8 @@
 //! Formulas about two states and a bijection of their references.
 
-
 use crate::expr::{Expr, Side};
 use crate::formula::Formula;
-use rel_list::{Boxed, List, Name};
+use rel_list::{Boxed, Name};
 
 /// A relation formula. `Agree` relates the value of the first on the left to that of the second on the right. A quantifier has the side
 /// of its variable, the variable, its class, the region that it ranges over, and the body.

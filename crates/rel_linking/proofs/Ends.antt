@@ -3,52 +3,48 @@ use Rattle.std.proofs.Common.{◌≡◌, zero, suc, pos, true, false, IsTrue, Li
 use Rattle.std.proofs.lemmas.Bool.Decides.{Decides-int_eq}
 use Rattle.rel_list.specs.References.{Ref}
 use Rattle.rel_list.specs.Pairs.{Pairs}
-use Rattle.rel_lang.specs.Syntax.{Type', int, Rel, agree, command, assign, Block, done, seq, Decl, Proc, UnitItem}
-use Rattle.rel_lang.specs.State.{Val, as_number, ref, rgn, default, Owner, item, call, State, Scope, find_variable, write_variable, with_defaults}
-use Rattle.rel_lang.specs.State as S
-use Rattle.rel_lang.specs.Run.{program_of, pre_scope, post_scope, body_scope, own_variables, declared, result_name, result_variable}
-use Rattle.rel_lang.specs.Relation.{IsBijection, related, RelHolds}
+use Rattle.rel_lang.specs.Syntax.{Ty, Int, RelFormula, Agree, At, Assign, Block, End, Then, Decl, Effect, Proc, UnitItem}
+use Rattle.rel_lang.specs.State.{Tables, Value, as_number, Number, Reference, Objects, default, Owner, ByUnit, ByCall, State, Scope, find_variable, write_variable, with_defaults}
+use Rattle.rel_lang.specs.Scope.{declared, unit_globals, unit_setting, result_name, result_variable, own_variables}
+use Rattle.rel_lang.specs.Run.{begin}
+use Rattle.rel_lang.specs.Relation.{IsBijection, related, Moment, RelHolds}
 use Rattle.rel_logic.specs.Syntax.{Srt, int_sort}
-use Rattle.rel_logic.specs.Truth.{Elem, number, Valuation, value, HasSort, FitsSorts, IsMember, ArePartners, IsTrueAt, IsValid}
+use Rattle.rel_logic.specs.Truth.{Elem, number, Valuation, HasSort, FitsSorts, IsMember, ArePartners, IsTrueAt}
 use Rattle.rel_logic.specs.Truth as T
-use Rattle.rel_linking.specs.Form.{IsPlainUnit}
+use Rattle.rel_linking.specs.Form.{IsAgreement, AssignsListed, IsPlainUnit}
 use Rattle.rel_linking.specs.Obligation.{Store, block_len, relation_of}
-use Rattle.rel_linking.proofs.Runs.{append_empty, IsNumber, AreFit, value_number, write_itself}
-use Rattle.rel_linking.proofs.PlainUnits.{defaults_keep}
+use Rattle.rel_linking.proofs.Runs.{IsNumber, AreNumbers, value_number, write_itself, write_apart}
+use Rattle.rel_linking.proofs.PlainUnits.{own_is}
 use Rattle.rel_linking.proofs.Walks.{Finds, term_value, nth, assigned, values_of}
 
--- ---- the scopes of a plain unit's procedure
+-- ---- the state from which a plain unit's procedure runs
 
-abbrev pub globals_of : UnitItem → Scope
-globals_of u = declared (item u.name) true u.globals
-
+-- what its body sees
 abbrev pub flat : UnitItem → Proc → Scope
-flat u q = globals_of u ++ result_variable q.result ∷ []
+flat u q = unit_globals u ++ result_variable (Some q.result)
 
-module _ (u : UnitItem) (q : Proc) (plain : IsPlainUnit u q) where
-  pub flat_pre : pre_scope (program_of u) q ≡ globals_of u
-  flat_pre = ap (λ ds. globals_of u ++ declared call false ds) plain.params ∙ append_empty (globals_of u)
+module _ (u : UnitItem) (q : Proc) (plain : IsPlainUnit u q) (s : State) where
+  pub begin_is : begin (unit_setting u q) s ≡ with_defaults (result_variable (Some q.result)) s
+  begin_is = ap (λ sc. with_defaults sc s) (own_is u q plain)
 
-  pub flat_post : post_scope (program_of u) q ≡ flat u q
-  flat_post = ap (λ sc. sc ++ result_variable q.result ∷ []) flat_pre
+  default_zero : (t : Ty) → t ≡ Int → default t ≡ Number (pos 0)
+  default_zero t e = ap default e
 
-  pub flat_body : body_scope (program_of u) q ≡ flat u q
-  flat_body = ap (λ ds. pre_scope (program_of u) q ++ (declared call true ds ++ result_variable q.result ∷ [])) plain.locals ∙ flat_post
+  pub result_zero : (begin (unit_setting u q) s).vars ByCall result_name ≡ Number (pos 0)
+  result_zero =
+      ap (λ t. t.vars ByCall result_name) begin_is
+      ∙ write_itself (record { name = result_name; owner = ByCall; ty = q.result; is_assignable = true }) (default q.result) s
+      ∙ default_zero q.result plain.result
 
-  pub result_zero : (s : State) → (with_defaults (own_variables q) s).vars call result_name ≡ S.number (pos 0)
-  result_zero s =
-      ap (λ ds. (with_defaults (declared call true ds ++ result_variable q.result ∷ []) s).vars call result_name) plain.locals
-      ∙ write_itself (result_variable q.result) (default q.result) s
-      ∙ default_zero q.result
+  pub values_same : (ds : List Decl) → values_of (ByUnit u.name) (begin (unit_setting u q) s) ds ≡ values_of (ByUnit u.name) s ds
+  values_same ds = ap (λ t. values_of (ByUnit u.name) t ds) begin_is ∙ go ds
     where
-      default_zero : (t : Type') → default t ≡ S.number (pos 0)
-      default_zero int = refl
-
-  pub values_same : (s : State) (ds : List Decl) → values_of (item u.name) (with_defaults (own_variables q) s) ds ≡ values_of (item u.name) s ds
-  values_same s [] = refl
-  values_same s (d ∷ ds) =
-      ap (λ v. number (as_number v) ∷ values_of (item u.name) (with_defaults (own_variables q) s) ds) (defaults_keep q.body.locals q.result s u.name d.name)
-      ∙ ap (λ l. number (as_number (s.vars (item u.name) d.name)) ∷ l) (values_same s ds)
+      go : (ds : List Decl) → values_of (ByUnit u.name) (with_defaults (result_variable (Some q.result)) s) ds ≡ values_of (ByUnit u.name) s ds
+      go [] = refl
+      go (d ∷ ds) =
+          ap (λ v. number (as_number v) ∷ values_of (ByUnit u.name) (with_defaults (result_variable (Some q.result)) s) ds)
+          (write_apart (record { name = result_name; owner = ByCall; ty = q.result; is_assignable = true }) (default q.result) s (ByUnit u.name) d.name refl)
+          ∙ ap (λ l. number (as_number (s.vars (ByUnit u.name) d.name)) ∷ l) (go ds)
 
 -- ---- values of the sorts
 
@@ -74,37 +70,42 @@ pub fit_values : (o : Owner) (s : State) (ds : List Decl) → Fit (replicate (le
 fit_values o s [] = tt
 fit_values o s (d ∷ ds) = ((_, refl), fit_values o s ds)
 
-pub fit_assigned : (sc : Scope) (b : Block) (s : State) → Fit (replicate (block_len b) int_sort) (assigned sc b s)
-fit_assigned sc done s = tt
-fit_assigned sc (seq (command at (assign x e)) cs) s = ((_, refl), fit_assigned sc cs _)
+pub fit_assigned : (tables : Tables) (sc : Scope) (writes : List Effect) (b : Block) (s : State) → AssignsListed writes b
+    → Fit (replicate (block_len b) int_sort) (assigned tables sc b s)
+fit_assigned tables sc writes End s l = tt
+fit_assigned tables sc writes (Then (At at (Assign x e)) cs) s l = ((_, refl), fit_assigned tables sc writes cs _ l.2)
+fit_assigned tables sc writes (Then c cs) s l = absurd l
 
 -- ---- relations of ints
 
-related_equal : (q : Pairs) (v w : Val) → IsNumber v → IsNumber w → IsTrue (related q v w) → as_number v ≡ as_number w
-related_equal q (S.number m) (S.number n) a b h = (Decides-int_eq m n).0 h
-related_equal q (S.number m) (ref r) a b h = cc
-related_equal q (S.number m) (rgn g) a b h = cc
-related_equal q (ref r) w a b h = cc
-related_equal q (rgn g) w a b h = cc
+related_equal : (q : Pairs) (v w : Value) → IsNumber v → IsNumber w → IsTrue (related q v w) → as_number v ≡ as_number w
+related_equal q (Number m) (Number n) a b h = (Decides-int_eq m n).0 h
+related_equal q (Number m) (Reference r) a b h = absurd cc
+related_equal q (Number m) (Objects g) a b h = absurd cc
+related_equal q (Reference r) w a b h = absurd cc
+related_equal q (Objects g) w a b h = absurd cc
 
-equal_related : (q : Pairs) (v w : Val) → IsNumber v → IsNumber w → as_number v ≡ as_number w → IsTrue (related q v w)
-equal_related q (S.number m) (S.number n) a b h = (Decides-int_eq m n).1 h
-equal_related q (S.number m) (ref r) a b h = cc
-equal_related q (S.number m) (rgn g) a b h = cc
-equal_related q (ref r) w a b h = cc
-equal_related q (rgn g) w a b h = cc
+equal_related : (q : Pairs) (v w : Value) → IsNumber v → IsNumber w → as_number v ≡ as_number w → IsTrue (related q v w)
+equal_related q (Number m) (Number n) a b h = (Decides-int_eq m n).1 h
+equal_related q (Number m) (Reference r) a b h = absurd cc
+equal_related q (Number m) (Objects g) a b h = absurd cc
+equal_related q (Reference r) w a b h = absurd cc
+equal_related q (Objects g) w a b h = absurd cc
 
-module _ (r : Valuation) (ls rs : Store) (left right : Scope) (before before' s t : State) (q : Pairs) (fl : Finds r ls left s) (fr : Finds r rs right t) (al : AreFit left s) (ar : AreFit right t) where
-  pub holds_true : (R : Rel) → RelHolds left right before before' s t R q → IsTrueAt r [] (relation_of ls rs R)
-  holds_true (agree e f) h =
-      term_value r ls left before s fl e
-      ∙ ap number (related_equal q _ _ (value_number left before s al e) (value_number right before' t ar f) h)
-      ∙ sym (term_value r rs right before' t fr f)
+module _ (r : Valuation) (tables : Tables) (ls rs : Store) (left right : Moment) (q : Pairs) (fl : Finds r ls left.scope left.now) (fr : Finds r rs right.scope right.now)
+    (al : AreNumbers left.scope left.now) (ar : AreNumbers right.scope right.now) where
+  pub holds_true : (R : RelFormula) → IsAgreement R → RelHolds tables R left right q → IsTrueAt r [] (relation_of ls rs R)
+  holds_true (Agree e f) a h =
+      term_value r ls tables left.scope left.entry left.now fl e a.0
+      ∙ ap number (related_equal q _ _ (value_number tables left.scope left.entry left.now al e a.0) (value_number tables right.scope right.entry right.now ar f a.1) h)
+      ∙ sym (term_value r rs tables right.scope right.entry right.now fr f a.1)
+  holds_true _ a h = absurd a
 
-  pub true_holds : (R : Rel) → IsTrueAt r [] (relation_of ls rs R) → RelHolds left right before before' s t R q
-  true_holds (agree e f) h =
-      equal_related q _ _ (value_number left before s al e) (value_number right before' t ar f)
-      (ap T.as_number (sym (term_value r ls left before s fl e) ∙ h ∙ term_value r rs right before' t fr f))
+  pub true_holds : (R : RelFormula) → IsAgreement R → IsTrueAt r [] (relation_of ls rs R) → RelHolds tables R left right q
+  true_holds (Agree e f) a h =
+      equal_related q _ _ (value_number tables left.scope left.entry left.now al e a.0) (value_number tables right.scope right.entry right.now ar f a.1)
+      (ap T.as_number (sym (term_value r ls tables left.scope left.entry left.now fl e a.0) ∙ h ∙ term_value r rs tables right.scope right.entry right.now fr f a.1))
+  true_holds _ a h = absurd a
 
 pub partners_inside : (q : Pairs) (s t : State) → IsBijection q s t → (v w : Ref) → ArePartners q v w → IsMember v s.alloc × IsMember w t.alloc
 partners_inside q s t b None w h = absurd h

@@ -2,8 +2,8 @@
 use Rattle.std.proofs.Common.{◌≡◌, ◌⊎◌, inl, inr, ⊎_elim, ℕ, ◌+◌, ◌<◌, ◌≤◌, List, ◌∷◌, length, get_or, drop, map, refl, sym, ap, subst}
 use Rattle.std.specs.List.{AllByRecursion}
 use Rattle.std.proofs.lemmas.List.{drop_more, drop_all}
-use Rattle.rel_lang.specs.Syntax.{Word, Effect, global}
-use Rattle.rel_lang.specs.Meets.{IsListed}
+use Rattle.rel_lang.specs.Syntax.{Word, Effect, Global, Locations}
+use Rattle.rel_linking.specs.Form.{IsListed}
 use Rattle.rel_lang.specs.Typed.{IsAmong, AreDistinct}
 use Rattle.rel_lang.specs.declared.bundle.Decl.{Decl}
 use Rattle.rel_lang.specs.declared.bundle.Effect as E
@@ -28,7 +28,7 @@ among_end x ds i h a = subst (λ l. IsAmong x (names_of l)) (drop_all i ds h) a
 
 -- ---- is_listed
 
-pub listed_here : (x : Word) (es : List E.Effect) (i : ℕ) (d : E.Effect) → i < length es → effect_of (get_or es i d) ≡ global x → IsListed (map effect_of (drop i es)) x
+pub listed_here : (x : Word) (es : List E.Effect) (i : ℕ) (d : E.Effect) → i < length es → effect_of (get_or es i d) ≡ Global x → IsListed (map effect_of (drop i es)) x
 listed_here x es i d h e =
     subst (λ l. IsListed (map effect_of l) x) (sym (drop_more es i d h)) (subst (λ f. IsListed (f ∷ map effect_of (drop (i + 1) es)) x) (sym e) (inl refl))
 
@@ -37,14 +37,16 @@ listed_before x es i d h a =
     subst (λ l. IsListed (map effect_of l) x) (sym (drop_more es i d h)) (later (effect_of (get_or es i d)) a)
   where
     later : (f : Effect) → IsListed (map effect_of (drop (i + 1) es)) x → IsListed (f ∷ map effect_of (drop (i + 1) es)) x
-    later (global y) b = inr b
+    later (Global y) b = inr b
+    later (Locations p) b = b
 
-pub listed_later : (x : Word) (es : List E.Effect) (i : ℕ) (d : E.Effect) → i < length es → (effect_of (get_or es i d) ≡ global x → ⊥) → IsListed (map effect_of (drop i es)) x → IsListed (map effect_of (drop (i + 1) es)) x
+pub listed_later : (x : Word) (es : List E.Effect) (i : ℕ) (d : E.Effect) → i < length es → (effect_of (get_or es i d) ≡ Global x → ⊥) → IsListed (map effect_of (drop i es)) x → IsListed (map effect_of (drop (i + 1) es)) x
 listed_later x es i d h differ a =
     one (effect_of (get_or es i d)) differ (subst (λ l. IsListed (map effect_of l) x) (drop_more es i d h) a)
   where
-    one : (f : Effect) → (f ≡ global x → ⊥) → IsListed (f ∷ map effect_of (drop (i + 1) es)) x → IsListed (map effect_of (drop (i + 1) es)) x
-    one (global y) other b = ⊎_elim (λ e. absurd (other (ap global (sym e)))) (λ m. m) b
+    one : (f : Effect) → (f ≡ Global x → ⊥) → IsListed (f ∷ map effect_of (drop (i + 1) es)) x → IsListed (map effect_of (drop (i + 1) es)) x
+    one (Global y) other b = ⊎_elim (λ e. absurd (other (ap Global (sym e)))) (λ m. m) b
+    one (Locations p) other b = b
 
 pub listed_end : (x : Word) (es : List E.Effect) (i : ℕ) → length es ≤ i → IsListed (map effect_of (drop i es)) x → ⊥
 listed_end x es i h a = subst (λ l. IsListed (map effect_of l) x) (drop_all i es h) a

@@ -1,11 +1,12 @@
 -- Scopes of assignable ints.
-use Rattle.std.proofs.Common.{◌≡◌, inl, inr, ⊎_elim, true, false, if◌then◌else◌, IsTrue, IsSome, IsSomeAnd, List, [], ◌∷◌, ◌++◌, map, Option, Some, None, bytes_eq, refl, sym}
+use Rattle.std.proofs.Common.{◌≡◌, inl, inr, ⊎_elim, Bool, true, false, ◌&&◌, if◌then◌else◌, IsTrue, IsSome, IsSomeAnd, List, [], ◌∷◌, ◌++◌, map, Option, Some, None, bytes_eq, refl, sym}
 use Rattle.std.specs.List.{AllByRecursion}
 use Rattle.std.proofs.lemmas.Slice.Eq.{bytes_eq-Decides}
-use Rattle.rel_lang.specs.Syntax.{Word, Type', int, Exp, var, num, add, sub}
-use Rattle.rel_lang.specs.State.{Variable, Scope, find_variable}
-use Rattle.rel_lang.specs.Typed.{IsAmong, AreDistinct, HasType}
-use Rattle.rel_linking.specs.Parts.{Reads}
+use Rattle.rel_lang.specs.Syntax.{Word, Ty, Int, Expression, Var, Num, Add, Sub, RelFormula, Agree}
+use Rattle.rel_lang.specs.State.{Tables, Variable, Scope, find_variable}
+use Rattle.rel_lang.specs.Typed.{IsAmong, AreDistinct, is_code, HasType}
+use Rattle.rel_linking.specs.Form.{IsArithmetic, IsAgreement}
+use Rattle.rel_linking.specs.Parts.{Reads, ReadsRel}
 
 abbrev pub names_in : Scope → List Word
 names_in sc = map (λ v. v.name) sc
@@ -13,8 +14,11 @@ names_in sc = map (λ v. v.name) sc
 abbrev pub IsAssignable : Variable → Type 0
 IsAssignable v = IsTrue v.is_assignable
 
-pub only_int : (t : Type') → t ≡ int
-only_int int = refl
+abbrev pub IsOfInt : Variable → Type 0
+IsOfInt v = v.ty ≡ Int
+
+abbrev pub AreInts : Scope → Type 0
+AreInts sc = AllByRecursion IsOfInt sc
 
 -- ---- what is found
 
@@ -62,23 +66,49 @@ lost_some x sc s = lost x sc (λ v. Unit {0}) (some_and (find_variable x sc) s)
 
 -- ---- expressions
 
-pub typed_exp : (sc : Scope) (e : Exp) → Reads (names_in sc) e → HasType sc e int
-typed_exp sc (var x) r = found x sc (λ v. v.ty ≡ int) (each_of (λ v. v.ty ≡ int) (λ v. only_int v.ty) sc) r
-typed_exp sc (num n) r = refl
-typed_exp sc (add a b) r = (typed_exp sc a r.0, typed_exp sc b r.1, refl)
-typed_exp sc (sub a b) r = (typed_exp sc a r.0, typed_exp sc b r.1, refl)
+pub arithmetic : (xs : List Word) (e : Expression) → Reads xs e → IsArithmetic e
+arithmetic xs (Var x) r = tt
+arithmetic xs (Num n) r = tt
+arithmetic xs (Add a b) r = (arithmetic xs a r.0, arithmetic xs b r.1)
+arithmetic xs (Sub a b) r = (arithmetic xs a r.0, arithmetic xs b r.1)
+arithmetic xs _ r = absurd r
 
-pub read_exp : (sc : Scope) (e : Exp) (t : Type') → HasType sc e t → Reads (names_in sc) e
-read_exp sc (var x) t h = lost x sc (λ v. v.ty ≡ t) h
-read_exp sc (num n) t h = tt
-read_exp sc (add a b) t h = (read_exp sc a int h.0, read_exp sc b int h.1)
-read_exp sc (sub a b) t h = (read_exp sc a int h.0, read_exp sc b int h.1)
+pub agreement : (xs ys : List Word) (f : RelFormula) → ReadsRel xs ys f → IsAgreement f
+agreement xs ys (Agree e f) r = (arithmetic xs e r.0, arithmetic ys f r.1)
+agreement xs ys _ r = absurd r
 
-pub reads_more : (xs ys : List Word) → ((x : Word) → IsAmong x xs → IsAmong x ys) → (e : Exp) → Reads xs e → Reads ys e
-reads_more xs ys h (var x) r = h x r
-reads_more xs ys h (num n) r = tt
-reads_more xs ys h (add a b) r = (reads_more xs ys h a r.0, reads_more xs ys h b r.1)
-reads_more xs ys h (sub a b) r = (reads_more xs ys h a r.0, reads_more xs ys h b r.1)
+and_true : (a b : Bool) → IsTrue a → IsTrue b → IsTrue (a && b)
+and_true true b p q = q
+and_true false b p q = cc
+
+pub code : (e : Expression) → IsArithmetic e → IsTrue (is_code e)
+code (Var x) h = refl
+code (Num n) h = refl
+code (Add a b) h = and_true (is_code a) (is_code b) (code a h.0) (code b h.1)
+code (Sub a b) h = and_true (is_code a) (is_code b) (code a h.0) (code b h.1)
+code _ h = absurd h
+
+module _ (tables : Tables) (old : Bool) (sc : Scope) where
+  pub typed_exp : AreInts sc → (e : Expression) → Reads (names_in sc) e → HasType tables old sc e Int
+  typed_exp ints (Var x) r = found x sc IsOfInt ints r
+  typed_exp ints (Num n) r = refl
+  typed_exp ints (Add a b) r = (typed_exp ints a r.0, typed_exp ints b r.1, refl)
+  typed_exp ints (Sub a b) r = (typed_exp ints a r.0, typed_exp ints b r.1, refl)
+  typed_exp ints _ r = absurd r
+
+  pub read_exp : (e : Expression) (t : Ty) → IsArithmetic e → HasType tables old sc e t → Reads (names_in sc) e
+  read_exp (Var x) t a h = lost x sc (λ v. v.ty ≡ t) h
+  read_exp (Num n) t a h = tt
+  read_exp (Add e f) t a h = (read_exp e Int a.0 h.0, read_exp f Int a.1 h.1)
+  read_exp (Sub e f) t a h = (read_exp e Int a.0 h.0, read_exp f Int a.1 h.1)
+  read_exp _ t a h = absurd a
+
+pub reads_more : (xs ys : List Word) → ((x : Word) → IsAmong x xs → IsAmong x ys) → (e : Expression) → Reads xs e → Reads ys e
+reads_more xs ys h (Var x) r = h x r
+reads_more xs ys h (Num n) r = tt
+reads_more xs ys h (Add a b) r = (reads_more xs ys h a r.0, reads_more xs ys h b r.1)
+reads_more xs ys h (Sub a b) r = (reads_more xs ys h a r.0, reads_more xs ys h b r.1)
+reads_more xs ys h _ r = absurd r
 
 -- ---- a name at the end in place of at the head
 

@@ -1,10 +1,12 @@
 -- Lists of one and of three, and biprograms of one command.
-use Rattle.std.proofs.Common.{◌≡◌, List, [], ◌∷◌, length, get_or, refl, arith}
-use Rattle.rel_lang.specs.Syntax.{Block, BiForm, split, bicommand, bidone, biseq, given}
+use Rattle.std.proofs.Common.{◌≡◌, ℕ, List, [], ◌∷◌, length, get_or, refl, sym, subst, arith}
+use Rattle.rel_lang.specs.Syntax.{Block, BiForm, Split, BiAt, BiBlock, BiEnd, BiThen, Align, Given}
+use Rattle.rel_lang.specs.Syntax as S
 use Rattle.rel_lang.specs.declared.biprogram.BiCommand.{BiCommand}
-use Rattle.rel_lang.specs.View.{biform_of, biblock_of}
+use Rattle.rel_lang.specs.View.{biform_of, bicommand_of, biblock_of}
 use Rattle.rel_linking.specs.Form.{IsSplitOf}
 use Rattle.rel_linking.specs.Parts.{IsSplitForm}
+use Rattle.rel_linking.proofs.Views.{bicommand_is}
 
 pub three_items : {X : Type 0} (xs : List X) (d e f : X) → length xs ≡ 3 → xs ≡ get_or xs 0 d ∷ get_or xs 1 e ∷ get_or xs 2 f ∷ []
 three_items [] d e f h = absurd (omega arith)
@@ -20,27 +22,40 @@ one_proc (x ∷ y ∷ xs) d h = absurd (omega arith)
 
 -- ---- one command of a biprogram
 
+-- one command's alignment
+abbrev alone : S.BiCommand → Align
+alone c = Given (BiThen c BiEnd)
+
+made : (at : ℕ) (f : BiForm) (l r : Block) → IsSplitForm f l r → IsSplitOf (alone (BiAt at f)) l r
+made at (Split a b) l r h = h
+made at _ l r h = absurd h
+
+form_made : (at : ℕ) (f : BiForm) (l r : Block) → IsSplitOf (alone (BiAt at f)) l r → IsSplitForm f l r
+form_made at (Split a b) l r h = h
+form_made at _ l r h = absurd h
+
 pub split_here : (cs : List BiCommand) (d : BiCommand) (l r : Block) → length cs ≡ 1
-    → IsSplitForm (biform_of (get_or cs 0 d).form) l r → IsSplitOf (given (biblock_of cs)) l r
+    → IsSplitForm (biform_of (get_or cs 0 d).form) l r → IsSplitOf (Given (biblock_of cs)) l r
 split_here [] d l r h s = absurd (omega arith)
-split_here (c ∷ []) d l r h s = formed (biform_of c.form) s
-  where
-    formed : (f : BiForm) → IsSplitForm f l r → IsSplitOf (given (biseq (bicommand c.at f) bidone)) l r
-    formed (split a b) t = t
+split_here (c ∷ []) d l r h s = subst (λ x. IsSplitOf (alone x) l r) (sym (bicommand_is c)) (made c.at (biform_of c.form) l r s)
 split_here (c ∷ e ∷ cs) d l r h s = absurd (omega arith)
 
 pub split_form : (cs : List BiCommand) (d : BiCommand) (l r : Block) → length cs ≡ 1
-    → IsSplitOf (given (biblock_of cs)) l r → IsSplitForm (biform_of (get_or cs 0 d).form) l r
+    → IsSplitOf (Given (biblock_of cs)) l r → IsSplitForm (biform_of (get_or cs 0 d).form) l r
 split_form [] d l r h s = absurd (omega arith)
-split_form (c ∷ []) d l r h s = formed (biform_of c.form) s
-  where
-    formed : (f : BiForm) → IsSplitOf (given (biseq (bicommand c.at f) bidone)) l r → IsSplitForm f l r
-    formed (split a b) t = t
+split_form (c ∷ []) d l r h s = form_made c.at (biform_of c.form) l r (subst (λ x. IsSplitOf (alone x) l r) (bicommand_is c) s)
 split_form (c ∷ e ∷ cs) d l r h s = absurd (omega arith)
 
-pub split_one : (cs : List BiCommand) (l r : Block) → IsSplitOf (given (biblock_of cs)) l r → length cs ≡ 1
+-- a list of two or more commands isn't one split
+more_than_one : (at : ℕ) (f : BiForm) (c : S.BiCommand) (b : BiBlock) (l r : Block) → IsSplitOf (Given (BiThen (BiAt at f) (BiThen c b))) l r → ⊥
+more_than_one at (Split a b) c d l r h = h
+more_than_one at _ c d l r h = h
+
+pub split_one : (cs : List BiCommand) (l r : Block) → IsSplitOf (Given (biblock_of cs)) l r → length cs ≡ 1
 split_one [] l r s = absurd s
 split_one (c ∷ []) l r s = refl
-split_one (c ∷ e ∷ cs) l r s = absurd s
+split_one (c ∷ e ∷ cs) l r s =
+    absurd (more_than_one c.at (biform_of c.form) (bicommand_of e) (biblock_of cs) l r
+    (subst (λ x. IsSplitOf (Given (BiThen x (BiThen (bicommand_of e) (biblock_of cs)))) l r) (bicommand_is c) s))
 
 pub ruleset split_list = (split_here, split_form, split_one)

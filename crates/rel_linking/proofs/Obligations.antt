@@ -2,16 +2,16 @@
 use Rattle.std.proofs.Common.{◌≡◌, ◌≢◌, ℕ, zero, suc, pos, ◌+◌, ◌<◌, ◌≤◌, Bool, true, false, if◌then◌else◌, List, [], ◌∷◌, ◌++◌, length, get_or, take, drop, set, map, replicate, All, refl, sym, ap, ◌∙◌, arith, rules}
 use Rattle.std.specs.Str.{bytes_eq}
 use Rattle.std.proofs.lemmas.Slice.Eq.{bytes_eq-Decides}
-use Rattle.rel_lang.specs.Syntax.{Word}
+use Rattle.rel_lang.specs.Syntax.{Word, At, Form, Skip, Assign, Load, Store, New, Call, If, While, Block, Then}
 use Rattle.rel_lang.specs.View.{block_of}
 use Rattle.rel_lang.specs.declared.command.Command.{Command}
 use Rattle.rel_logic.specs.Syntax.{Trm, int, Fml, Srt, int_sort, rgn_sort, bij_sort}
 use Rattle.rel_logic.specs.View.{trm_of}
 use Rattle.rel_logic.specs.declared.term.Term.{Term, Int, the_lemmas}
-use Rattle.rel_linking.specs.Obligation.{Store, look_up, with_term, numbered, Walked, walk, block_len, inside, relation_of, left_alloc, first_right, right_alloc, bijection, first_fresh, left_block, right_block, left_start, right_start, left_walk, right_walk, obligation_of}
+use Rattle.rel_linking.specs.Obligation.{Store as Terms, look_up, with_term, numbered, Walked, walk, block_len, inside, relation_of, left_alloc, first_right, right_alloc, bijection, first_fresh, left_block, right_block, left_start, right_start, left_walk, right_walk, obligation_of}
 use Rattle.rel_linking.specs.Form.{Parts}
-use Rattle.rel_linking.specs.Scope.{entry_of}
-use Rattle.rel_linking.specs.declared.obligation.Variable.{Variable}
+use Rattle.rel_linking.specs.Scope.{entry_of, one_step}
+use Rattle.rel_linking.specs.declared.terms.Variable.{Variable}
 
 pub zero_is : trm_of (Int (pos 0)) ≡ int (pos 0)
 zero_is = search (rules, the_lemmas)
@@ -61,18 +61,26 @@ with_term_none x (w ∷ ws) (suc i) t a h =
     ap (λ b. if b then (w.name, t) ∷ map entry_of ws else entry_of w ∷ with_term x t (map entry_of ws)) (differ x w.name (a 0 w (omega arith)))
     ∙ ap (λ s. entry_of w ∷ s) (with_term_none x ws i t (λ k d l. a (suc k) d (omega arith)) (omega arith))
 
--- what is still to walk after i commands
-abbrev pub rest_of : Store → ℕ → List Command → ℕ → Walked
-rest_of st n cs i = walk st (n + i) (block_of (drop i cs))
+-- a command's step comes before the walk along the rest
+pub walk_one : (st : Terms) (n at : ℕ) (f : Form) (cs : Block) → walk st n (Then (At at f) cs)
+    ≡ record { hyps = (one_step st n f).hyps ++ (walk (one_step st n f).store (suc n) cs).hyps; store = (walk (one_step st n f).store (suc n) cs).store }
+walk_one st n at Skip cs = refl
+walk_one st n at (Assign x e) cs = refl
+walk_one st n at (Load x y f) cs = refl
+walk_one st n at (Store y f e) cs = refl
+walk_one st n at (New x c) cs = refl
+walk_one st n at (Call x p es) cs = refl
+walk_one st n at (If p a b) cs = refl
+walk_one st n at (While p q b) cs = refl
 
-pub block_len_is : (cs : List Command) → block_len (block_of cs) ≡ length cs
-block_len_is [] = refl
-block_len_is (c ∷ cs) = ap suc (block_len_is cs)
+-- what is still to walk after i commands
+abbrev pub rest_of : Terms → ℕ → List Command → ℕ → Walked
+rest_of st n cs i = walk st (n + i) (block_of (drop i cs))
 
 pub ruleset scopes = (look_up_at, look_up_none, with_term_at, with_term_none)
 
 -- from what the code computes
-pub obligation_is : (k : Parts) (l r p q : ℕ) (sorts : List Srt) (lt rt lt' rt' : Store) (hyps more all : List Fml) (goal : Fml)
+pub obligation_is : (k : Parts) (l r p q : ℕ) (sorts : List Srt) (lt rt lt' rt' : Terms) (hyps more all : List Fml) (goal : Fml)
     → l ≡ length k.left.globals → r ≡ length k.right.globals → p ≡ block_len k.left_proc.body.commands → q ≡ block_len k.right_proc.body.commands
     → sorts ≡ replicate l int_sort ++ rgn_sort ∷ replicate r int_sort ++ rgn_sort ∷ bij_sort ∷ replicate (p + q) int_sort
     → lt ≡ numbered 0 k.left.globals → rt ≡ numbered (l + 1) k.right.globals

@@ -1,19 +1,18 @@
 -- A walk along a block: its equations are true of the values that the run assigns, and its store describes the state at the end.
-use Rattle.std.proofs.Common.{◌≡◌, ℕ, zero, suc, ◌+◌, pos, ◌+ℤ◌, ◌-ℤ◌, true, false, if◌then◌else◌, inl, inr, List, [], ◌∷◌, ◌++◌, get_or, drop, length, map, Some, refl, sym, ap, ◌∙◌, arith}
+use Rattle.std.proofs.Common.{◌≡◌, ℕ, zero, suc, ◌+◌, pos, ◌+ℤ◌, ◌-ℤ◌, Bool, true, false, if◌then◌else◌, inl, inr, List, [], ◌∷◌, ◌++◌, get_or, drop, length, map, Some, refl, sym, ap, ◌∙◌, arith}
 use Rattle.std.specs.List.{AllByRecursion}
 use Rattle.std.specs.Str.{bytes_eq}
-use Rattle.rel_lang.specs.Syntax.{Word, Exp, var, num, add, sub, command, assign, Block, done, seq, Decl}
-use Rattle.rel_lang.specs.State.{Val, as_number, Owner, item, call, State, Variable, Scope, find_variable, read_variable, write_variable}
-use Rattle.rel_lang.specs.State as S
+use Rattle.rel_lang.specs.Syntax.{Word, Ty, Expression, Var, Num, Add, Sub, At, Assign, Block, End, Then, Decl, Effect}
+use Rattle.rel_lang.specs.State.{Tables, Value, Number, as_number, Owner, ByCall, State, Variable, Scope, find_variable, read_variable, write_variable}
 use Rattle.rel_lang.specs.Value.{value_of}
-use Rattle.rel_lang.specs.Run.{declared, result_name, result_variable}
+use Rattle.rel_lang.specs.Scope.{declared, result_name, result_variable}
 use Rattle.rel_lang.specs.Typed.{IsAmong, AreDistinct}
-use Rattle.rel_logic.specs.Syntax.{Trm}
 use Rattle.rel_logic.specs.Syntax as L
 use Rattle.rel_logic.specs.Truth.{Elem, number, Valuation, value, IsTrueAt}
 use Rattle.rel_logic.specs.Truth as T
+use Rattle.rel_linking.specs.Form.{IsArithmetic, AssignsListed}
 use Rattle.rel_linking.specs.Obligation.{Store, look_up, with_term, term_of, numbered, walk, block_len}
-use Rattle.rel_linking.proofs.Runs.{words_differ, final, write_itself, write_other, write_found_other}
+use Rattle.rel_linking.proofs.Runs.{word_itself, words_differ, final, write_itself, write_other, write_found_other}
 
 -- ---- a store that describes a state
 
@@ -43,32 +42,43 @@ finds r (p ∷ ps) (x ∷ xs) s d y =
       | false ↦ finds r ps xs s d.2 y
     ]
 
-pub term_value : (r : Valuation) (st : Store) (sc : Scope) (before s : State) → Finds r st sc s → (e : Exp) → value r [] (term_of st e) ≡ number (as_number (value_of sc e before s))
-term_value r st sc before s f (var x) = f x
-term_value r st sc before s f (num n) = refl
-term_value r st sc before s f (add a b) =
-    let m = ap T.as_number (term_value r st sc before s f a) in
-    let n = ap T.as_number (term_value r st sc before s f b) in
-    λ i. number (m i +ℤ n i)
-term_value r st sc before s f (sub a b) =
-    let m = ap T.as_number (term_value r st sc before s f a) in
-    let n = ap T.as_number (term_value r st sc before s f b) in
-    λ i. number (m i -ℤ n i)
+module _ (r : Valuation) (st : Store) (tables : Tables) (sc : Scope) (before s : State) (f : Finds r st sc s) where
+  pub term_value : (e : Expression) → IsArithmetic e → value r [] (term_of st e) ≡ number (as_number (value_of tables sc e before s))
+  term_value (Var x) h = f x
+  term_value (Num n) h = refl
+  term_value (Add a b) h =
+      let m = ap T.as_number (term_value a h.0) in
+      let n = ap T.as_number (term_value b h.1) in
+      λ i. number (m i +ℤ n i)
+  term_value (Sub a b) h =
+      let m = ap T.as_number (term_value a h.0) in
+      let n = ap T.as_number (term_value b h.1) in
+      λ i. number (m i -ℤ n i)
+  term_value _ h = absurd h
 
 -- ---- an assignment
 
-describes_other : (r : Valuation) (st : Store) (sc : Scope) (s : State) (w : Variable) (v : Val) → (IsAmong w.name (map (λ x. x.name) sc) → ⊥) → Describes r st sc s
+describes_other : (r : Valuation) (st : Store) (sc : Scope) (s : State) (w : Variable) (v : Value) → (IsAmong w.name (map (λ x. x.name) sc) → ⊥) → Describes r st sc s
     → Describes r st sc (write_variable (Some w) v s)
 describes_other r [] [] s w v other d = tt
 describes_other r [] (x ∷ xs) s w v other d = absurd d
 describes_other r (p ∷ ps) [] s w v other d = absurd d
 describes_other r (p ∷ ps) (x ∷ xs) s w v other d = (
   d.0,
-  d.1 ∙ ap (λ z. number (as_number z)) (sym (write_other w v s x.owner x.name (words_differ w.name x.name (λ e. other (inl e))))),
+  d.1 ∙ ap (λ z. number (as_number z)) (sym (write_other w v s x.owner x.name (words_differ x.name w.name (λ e. other (inl (sym e)))))),
   describes_other r ps xs s w v (λ k. other (inr k)) d.2,
 )
 
-describes_write : (r : Valuation) (n : ℕ) (x : Word) (v : Val) (s : State) (st : Store) (sc : Scope) → AreDistinct (map (λ y. y.name) sc) → r n ≡ number (as_number v) → Describes r st sc s
+turned : (x y : Word) → bytes_eq x y ≡ false → bytes_eq y x ≡ false
+turned x y e = words_differ y x (λ same. absurd (clash (bytes_eq x y) (same_text x y (sym same)) e))
+  where
+    clash : (b : Bool) → b ≡ true → b ≡ false → ⊥
+    clash b t f = cc
+
+    same_text : (a b : Word) → a ≡ b → bytes_eq a b ≡ true
+    same_text a b is = ap (λ z. bytes_eq z b) is ∙ word_itself b
+
+describes_write : (r : Valuation) (n : ℕ) (x : Word) (v : Value) (s : State) (st : Store) (sc : Scope) → AreDistinct (map (λ y. y.name) sc) → r n ≡ number (as_number v) → Describes r st sc s
     → Describes r (with_term x (L.var n) st) sc (write_variable (find_variable x sc) v s)
 describes_write r n x v s [] [] distinct at d = tt
 describes_write r n x v s [] (y ∷ ys) distinct at d = absurd d
@@ -79,26 +89,29 @@ describes_write r n x v s (p ∷ ps) (y ∷ ys) distinct at d =
           (d.0, at ∙ ap (λ z. number (as_number z)) (sym (write_itself y v s)), describes_other r ps ys s y v distinct.0 d.2)
       | false ↦ λ e. rw (ap (bytes_eq x) d.0 ∙ e) (
         d.0,
-        d.1 ∙ ap (λ z. number (as_number z)) (sym (write_found_other x ys v s y.owner y.name e)),
+        d.1 ∙ ap (λ z. number (as_number z)) (sym (write_found_other x ys v s y.owner y.name (turned x y.name e))),
         describes_write r n x v s ps ys distinct.1 at d.2,
       )
     ] refl
 
 -- ---- a walk
 
--- the values that the run assigns are those of the variables from n on
-abbrev pub Follows : Valuation → Scope → ℕ → Block → State → Type 0
-Follows r sc n done s = Unit {0}
-Follows r sc n (seq (command at (assign x e)) cs) s =
-    (r n ≡ number (as_number (value_of sc e s s))) × Follows r sc (suc n) cs (write_variable (find_variable x sc) (value_of sc e s s) s)
+module _ (r : Valuation) (tables : Tables) (sc : Scope) where
+  -- the values that the run assigns are those of the variables from n on
+  abbrev pub Follows : ℕ → Block → State → Type 0
+  Follows n End s = Unit {0}
+  Follows n (Then (At at (Assign x e)) cs) s =
+      (r n ≡ number (as_number (value_of tables sc e s s))) × Follows (suc n) cs (write_variable (find_variable x sc) (value_of tables sc e s s) s)
+  Follows n (Then c cs) s = ⊥
 
-pub walk_true : (r : Valuation) (sc : Scope) (b : Block) (n : ℕ) (st : Store) (s : State) → AreDistinct (map (λ y. y.name) sc) → Describes r st sc s → Follows r sc n b s
-    → AllByRecursion (IsTrueAt r []) (walk st n b).hyps × Describes r (walk st n b).store sc (final sc b s)
-walk_true r sc done n st s distinct d f = (tt, d)
-walk_true r sc (seq (command at (assign x e)) cs) n st s distinct d f =
-    let v = value_of sc e s s in
-    let below = walk_true r sc cs (suc n) (with_term x (L.var n) st) (write_variable (find_variable x sc) v s) distinct (describes_write r n x v s st sc distinct f.0 d) f.1 in
-    ((f.0 ∙ sym (term_value r st sc s s (finds r st sc s d) e), below.0), below.1)
+  pub walk_true : (writes : List Effect) (b : Block) (n : ℕ) (st : Store) (s : State) → AssignsListed writes b → AreDistinct (map (λ y. y.name) sc) → Describes r st sc s → Follows n b s
+      → AllByRecursion (IsTrueAt r []) (walk st n b).hyps × Describes r (walk st n b).store sc (final tables sc b s)
+  walk_true writes End n st s l distinct d f = (tt, d)
+  walk_true writes (Then (At at (Assign x e)) cs) n st s l distinct d f =
+      let v = value_of tables sc e s s in
+      let below = walk_true writes cs (suc n) (with_term x (L.var n) st) (write_variable (find_variable x sc) v s) l.2 distinct (describes_write r n x v s st sc distinct f.0 d) f.1 in
+      ((f.0 ∙ sym (term_value r st tables sc s s (finds r st sc s d) e l.1), below.0), below.1)
+  walk_true writes (Then c cs) n st s l distinct d f = absurd l
 
 pub describes_finds : (r : Valuation) (st : Store) (sc : Scope) (s : State) → Describes r st sc s → Finds r st sc s
 describes_finds = finds
@@ -125,19 +138,24 @@ at_after values n (x ∷ xs) ys e =
     let same : n + suc (length xs) ≡ suc n + length xs = omega arith in
     ap (λ m. drop m values) same ∙ at_after values (suc n) xs ys (at_next values n x (xs ++ ys) e)
 
--- the values that a run assigns
-abbrev pub assigned : Scope → Block → State → List Elem
-assigned sc done s = []
-assigned sc (seq (command at (assign x e)) cs) s = number (as_number (value_of sc e s s)) ∷ assigned sc cs (write_variable (find_variable x sc) (value_of sc e s s) s)
+module _ (tables : Tables) (sc : Scope) where
+  -- the values that a run assigns
+  abbrev pub assigned : Block → State → List Elem
+  assigned End s = []
+  assigned (Then (At at (Assign x e)) cs) s = number (as_number (value_of tables sc e s s)) ∷ assigned cs (write_variable (find_variable x sc) (value_of tables sc e s s) s)
+  assigned (Then c cs) s = []
 
-pub length-assigned : (sc : Scope) (b : Block) (s : State) → length (assigned sc b s) ≡ block_len b
-length-assigned sc done s = refl
-length-assigned sc (seq (command at (assign x e)) cs) s = ap suc (length-assigned sc cs _)
+  pub length-assigned : (writes : List Effect) (b : Block) (s : State) → AssignsListed writes b → length (assigned b s) ≡ block_len b
+  length-assigned writes End s l = refl
+  length-assigned writes (Then (At at (Assign x e)) cs) s l = ap suc (length-assigned writes cs _ l.2)
+  length-assigned writes (Then c cs) s l = absurd l
 
-pub follows : (values : List Elem) (sc : Scope) (b : Block) (n : ℕ) (s : State) (rest : List Elem) → drop n values ≡ assigned sc b s ++ rest → Follows (nth values) sc n b s
-follows values sc done n s rest e = tt
-follows values sc (seq (command at (assign x e)) cs) n s rest is =
-    (at_here values n _ _ is, follows values sc cs (suc n) _ rest (at_next values n _ _ is))
+  pub follows : (values : List Elem) (writes : List Effect) (b : Block) (n : ℕ) (s : State) (rest : List Elem) → AssignsListed writes b → drop n values ≡ assigned b s ++ rest
+      → Follows (nth values) tables sc n b s
+  follows values writes End n s rest l e = tt
+  follows values writes (Then (At at (Assign x e)) cs) n s rest l is =
+      (at_here values n _ _ is, follows values writes cs (suc n) _ rest l.2 (at_next values n _ _ is))
+  follows values writes (Then c cs) n s rest l is = absurd l
 
 -- ---- the start
 
@@ -145,8 +163,8 @@ follows values sc (seq (command at (assign x e)) cs) n s rest is =
 abbrev pub values_of : Owner → State → List Decl → List Elem
 values_of o s ds = map (λ d. number (as_number (s.vars o d.name))) ds
 
-pub start_describes : (values : List Elem) (o : Owner) (ds : List Decl) (n : ℕ) (s : State) (t : _) (rest : List Elem) → drop n values ≡ values_of o s ds ++ rest
-    → s.vars call result_name ≡ S.number (pos 0) → Describes (nth values) (numbered n ds) (declared o true ds ++ result_variable t ∷ []) s
+pub start_describes : (values : List Elem) (o : Owner) (ds : List Decl) (n : ℕ) (s : State) (t : Ty) (rest : List Elem) → drop n values ≡ values_of o s ds ++ rest
+    → s.vars ByCall result_name ≡ Number (pos 0) → Describes (nth values) (numbered n ds) (declared o true ds ++ result_variable (Some t)) s
 start_describes values o [] n s t rest e at_zero = (refl, ap (λ v. number (as_number v)) (sym at_zero), tt)
 start_describes values o (d ∷ ds) n s t rest e at_zero = (refl, at_here values n _ _ e, start_describes values o ds (suc n) s t rest (at_next values n _ _ e) at_zero)
 

@@ -1,8 +1,8 @@
 -- The one obligation of such a bundle: where the two procedures end, the postcondition holds.
 use Rattle.std.specs.Prelude.{ℕ, suc, ◌+◌, pos, if◌then◌else◌, List, [], ◌∷◌, ◌++◌, length, replicate, bytes_eq}
-use Rattle.rel_lang.specs.Syntax.{Word, Exp, Rel, agree, Cmd, command, Form, assign, Block, done, seq, Decl}
+use Rattle.rel_lang.specs.Syntax.{Word, Expression, RelFormula, Agree, At, Assign, Block, End, Then, Decl}
 use Rattle.rel_lang.specs.Syntax as L
-use Rattle.rel_lang.specs.Run.{result_name}
+use Rattle.rel_lang.specs.Scope.{result_name}
 use Rattle.rel_logic.specs.Syntax.{int_sort, rgn_sort, bij_sort, Trm, var, bound, int, add, sub, Fml, eq, member, paired, and, imp, every, ref_sort, Sqt}
 use Rattle.rel_linking.specs.Form.{Parts}
 
@@ -19,11 +19,13 @@ abbrev pub with_term : Word → Trm → Store → Store
 with_term x t [] = []
 with_term x t (p ∷ ps) = if bytes_eq x p.0 then (p.0, t) ∷ ps else p ∷ with_term x t ps
 
-abbrev pub term_of : Store → Exp → Trm
-term_of st (L.var x) = look_up x st
-term_of st (L.num n) = int n
-term_of st (L.add a b) = add (term_of st a) (term_of st b)
-term_of st (L.sub a b) = sub (term_of st a) (term_of st b)
+-- an expression that isn't arithmetic stands for 0
+abbrev pub term_of : Store → Expression → Trm
+term_of st (L.Var x) = look_up x st
+term_of st (L.Num n) = int n
+term_of st (L.Add a b) = add (term_of st a) (term_of st b)
+term_of st (L.Sub a b) = sub (term_of st a) (term_of st b)
+term_of st _ = int (pos 0)
 
 -- variables from n on for the globals
 abbrev pub numbered : ℕ → List Decl → Store
@@ -35,15 +37,16 @@ pub record Walked : Type 0 where
   pub hyps : List Fml
   pub store : Store
 
--- each assignment takes the next variable, from n on
+-- each command takes the next variable, from n on
 abbrev pub walk : Store → ℕ → Block → Walked
-walk st n done = record { hyps = []; store = st }
-walk st n (seq (command at (assign x e)) cs) =
+walk st n End = record { hyps = []; store = st }
+walk st n (Then (At at (Assign x e)) cs) =
     let rest = walk (with_term x (var n) st) (suc n) cs in record { hyps = eq (var n) (term_of st e) ∷ rest.hyps; store = rest.store }
+walk st n (Then c cs) = walk st (suc n) cs
 
 abbrev pub block_len : Block → ℕ
-block_len done = 0
-block_len (seq c cs) = suc (block_len cs)
+block_len End = 0
+block_len (Then c cs) = suc (block_len cs)
 
 -- every pair of p is of allocated references
 abbrev pub inside : ℕ → ℕ → ℕ → Fml
@@ -51,8 +54,9 @@ inside p alloc alloc' =
     every ref_sort (every ref_sort (imp (paired (var p) (bound 1) (bound 0)) (and (member (bound 1) (var alloc)) (member (bound 0) (var alloc')))))
 
 -- both sides have ints, which are related where they are equal
-abbrev pub relation_of : Store → Store → Rel → Fml
-relation_of left right (agree e f) = eq (term_of left e) (term_of right f)
+abbrev pub relation_of : Store → Store → RelFormula → Fml
+relation_of left right (Agree e f) = eq (term_of left e) (term_of right f)
+relation_of left right _ = eq (int (pos 0)) (int (pos 0))
 
 -- The variables are: the left globals, the left allocated references, the same on the right, the bijection, and then one for each assignment.
 module _ (k : Parts) where

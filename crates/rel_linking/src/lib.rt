@@ -1,5 +1,5 @@
-//! Which bundles can be judged, and the obligation whose validity makes such a bundle true.
+//! Which bundles can be judged so far.
 #![tactic(auto)]
 
-pub mod form;
-pub mod obligation;
+mod form;
+mod terms;

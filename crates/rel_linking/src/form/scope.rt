@@ -2,12 +2,12 @@
 
 ghost use Rattle.std.specs.Prelude.{◌≡◌, ◌↔◌, ◌≤◌, IsTrue, drop, length, ◌∷◌, map};
 ghost use Rattle.std.specs.List.{AllByRecursion};
-ghost use Rattle.rel_lang.specs.Syntax.{global};
-ghost use Rattle.rel_lang.specs.Run.{result_name};
-ghost use Rattle.rel_lang.specs.Meets.{IsListed};
+ghost use Rattle.rel_lang.specs.Syntax.{Global};
+ghost use Rattle.rel_lang.specs.Scope.{result_name};
 ghost use Rattle.rel_lang.specs.Typed.{IsAmong, AreDistinct};
-ghost use Rattle.rel_lang.specs.View.{exp_of, effect_of};
-ghost use Rattle.rel_linking.specs.Parts.{names_of, visible, Reads, IsNamedIn};
+ghost use Rattle.rel_lang.specs.View.{expression_of, effect_of};
+ghost use Rattle.rel_linking.specs.Form.{IsListed};
+ghost use Rattle.rel_linking.specs.Parts.{names_of, visible, Reads, Names, IsNamedIn};
 
 use rel_lang::bundle::{Decl, Effect};
 use rel_lang::expr::Expr;
@@ -41,10 +41,11 @@ pub fn is_listed(x: &Name, writes: &List<Effect>) -> bool
 }
 
 fn is_effect(effect: &Effect, x: &Name) -> bool
-    ensures { IsTrue result ↔ (effect_of effect.now ≡ global x.now) }
+    ensures { IsTrue result ↔ (effect_of effect.now ≡ Global x.now) }
 {
     match effect {
         Effect::Var(y) => y.is(x),
+        Effect::At(_) => false,
     }
 }
 
@@ -64,23 +65,31 @@ pub fn are_distinct(declared: &List<Decl>) -> bool
     true
 }
 
-/// Whether each listed name is a declared one.
+/// Whether each effect is a declared global.
 #[tactic(auto, using(crate::proofs::FormsLists::each))]
 pub fn are_declared(writes: &List<Effect>, declared: &List<Decl>) -> bool
     ensures { IsTrue result ↔ AllByRecursion (IsNamedIn declared.now) writes.now }
 {
     for i in 0..writes.len() {
-        let Effect::Var(x) = writes.at(i);
-        if !is_declared(x.as_str(), declared, 0) {
+        if !is_global_of(writes.at(i), declared) {
             return false;
         }
     }
     true
 }
 
-/// Whether each name in the expression is declared, or is `result` where that is in scope.
+fn is_global_of(effect: &Effect, declared: &List<Decl>) -> bool
+    ensures { IsTrue result ↔ Names (names_of declared.now) (effect_of effect.now) }
+{
+    match effect {
+        Effect::Var(x) => is_declared(x.as_str(), declared, 0),
+        Effect::At(_) => false,
+    }
+}
+
+/// Whether the expression is arithmetic, and each name in it is declared or is `result` where that is in scope.
 pub fn reads_only(e: &Expr, declared: &List<Decl>, with_result: bool) -> bool
-    ensures { IsTrue result ↔ Reads (visible with_result declared.now) (exp_of e.now) }
+    ensures { IsTrue result ↔ Reads (visible with_result declared.now) (expression_of e.now) }
 {
     match e {
         Expr::Var(x) => is_visible(x, declared, with_result),
@@ -89,6 +98,7 @@ pub fn reads_only(e: &Expr, declared: &List<Decl>, with_result: bool) -> bool
             && reads_only(b.get(), declared, with_result),
         Expr::Sub(a, b) => reads_only(a.get(), declared, with_result)
             && reads_only(b.get(), declared, with_result),
+        _ => false,
     }
 }
 

@@ -1,12 +1,12 @@
 use Rattle.std.proofs.Common.{◌≡◌, get_or, refl, sym, ap, ◌∙◌, arith}
-use Rattle.rel_lang.specs.Syntax.{global}
+use Rattle.rel_lang.specs.Syntax.{Global}
 use Rattle.rel_lang.specs.View.{effect_of}
 use Rattle.rel_linking.proofs.FormsLists.{listed_here, listed_before, listed_later, listed_end}
 use Rattle.rel_linking.proofs.form.scope.is_listed.Goals as goal
 
 pub returns-then-is_effect : goal.returns-then-is_effect
 returns-then-is_effect c =
-    let same : effect_of (get_or c.args.writes.now c.loop-i.i c.at.result.now) ≡ global c.args.x.now =
+    let same : effect_of (get_or c.args.writes.now c.loop-i.i c.at.result.now) ≡ Global c.args.x.now =
     ap effect_of (sym c.at.ensures) ∙ c.is_effect.ensures.0 c.if-is_effect.true in
     (λ _. c.loop-i.invariant.1 (listed_here c.args.x.now c.args.writes.now c.loop-i.i c.at.result.now (omega arith) same), λ _. refl)
 

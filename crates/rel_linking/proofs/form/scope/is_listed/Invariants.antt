@@ -1,5 +1,5 @@
 use Rattle.std.proofs.Common.{◌↔◌, drop, map}
-use Rattle.rel_lang.specs.Meets.{IsListed}
+use Rattle.rel_linking.specs.Form.{IsListed}
 use Rattle.rel_lang.specs.View.{effect_of}
 use Rattle.rel_linking.proofs.form.scope.is_listed.Given as goal
 
