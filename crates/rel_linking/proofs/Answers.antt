@@ -12,11 +12,12 @@ use Rattle.rel_lang.specs.declared.bundle.Proc as Q
 use Rattle.rel_lang.specs.declared.bundle.Item as I
 use Rattle.rel_lang.specs.declared.bundle.Item.TheVariants as IV
 use Rattle.rel_lang.specs.View.{decl_of, proc_of, unit_of, item_of}
+use Rattle.rel_logic.specs.View.{sequent_of}
 use Rattle.rel_logic.specs.declared.sequent.Sequent.{Sequent}
 use Rattle.rel_linking.specs.Form.{Parts, IsStraight}
-use Rattle.rel_linking.specs.Obligation.{block_len}
+use Rattle.rel_linking.specs.Obligation.{block_len, obligation_of}
 use Rattle.rel_linking.specs.Parts.{AreJudged, HasFew}
-use Rattle.rel_linking.specs.Scope.{IsAnswer, IsAnswerFor}
+use Rattle.rel_linking.specs.Scope.{parts_of, IsAnswer, IsAnswerFor}
 use Rattle.rel_linking.proofs.Forms.{items_of, made, straight, made_of, judged}
 use Rattle.rel_linking.proofs.Lengths.{block_len_is}
 use Rattle.rel_linking.proofs.TrueBundles.{enough}
@@ -47,6 +48,8 @@ second_other xs x a h k s = let m = made_of xs k s.parts.items in h m.1 (a ∙ a
 
 pub third_other : (xs : List I.Item) (x : I.Item) → x ≡ get_or xs 2 x → ((j : J.Judgement) → x ≡ IV.Judge j → ⊥) → IsAnswer (items_of xs) None
 third_other xs x a h k s = let m = made_of xs k s.parts.items in h m.2 (a ∙ ap (λ ys. get_or ys 2 x) m.3)
+
+pub ruleset answers = (found, three_are, not_three, first_other, second_other, third_other)
 
 -- ---- the limits keep the numbers of variables within 32 bits
 
@@ -121,3 +124,11 @@ both_few xs l r j e h =
     let left = split (element 1 (show_unit (unit_of l))) (repeated show_item 2 (map item_of (IV.UnitItem r ∷ IV.Judge j ∷ []))) fits in
     let right = split (element 2 (show_unit (unit_of r))) (repeated show_item 3 (map item_of (IV.Judge j ∷ []))) left.1 in
     (has_few 1 l left.0, has_few 2 r right.0)
+
+-- the sequent of the one procedure of each
+pub for_three : (l r : U.UnitItem) (j : J.Judgement) (p q : Q.Proc) (s : Sequent) → AreJudged l r j → p ≡ get_or l.procs 0 p → q ≡ get_or r.procs 0 q
+    → sequent_of s ≡ obligation_of (parts_of l p r q j) → (k : AreJudged l r j) × (sequent_of s ≡ obligation_of (parts_of l k.left_proc r k.right_proc j))
+for_three l r j p q s k el er e =
+    let left : p ≡ k.left_proc = el ∙ ap (λ ps. get_or ps 0 p) k.left in
+    let right : q ≡ k.right_proc = er ∙ ap (λ ps. get_or ps 0 q) k.right in
+    (k, e ∙ (λ i. obligation_of (parts_of l (left i) r (right i) j)))

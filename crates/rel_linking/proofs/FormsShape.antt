@@ -1,11 +1,14 @@
 -- Lists of one and of three, and biprograms of one command.
-use Rattle.std.proofs.Common.{◌≡◌, ℕ, List, [], ◌∷◌, length, get_or, refl, sym, subst, arith}
+use Rattle.std.proofs.Common.{◌≡◌, ◌↔◌, ℕ, Bool, IsTrue, List, [], ◌∷◌, length, get_or, refl, sym, ap, ◌∙◌, subst, arith}
 use Rattle.rel_lang.specs.Syntax.{Block, BiForm, Split, BiAt, BiBlock, BiEnd, BiThen, Align, Given}
 use Rattle.rel_lang.specs.Syntax as S
 use Rattle.rel_lang.specs.declared.biprogram.BiCommand.{BiCommand}
 use Rattle.rel_lang.specs.View.{biform_of, bicommand_of, biblock_of}
 use Rattle.rel_linking.specs.Form.{IsSplitOf}
-use Rattle.rel_linking.specs.Parts.{IsSplitForm}
+use Rattle.rel_lang.specs.declared.bundle.UnitItem as U
+use Rattle.rel_lang.specs.declared.bundle.Proc as Q
+use Rattle.rel_lang.specs.declared.bundle.Judgement as J
+use Rattle.rel_linking.specs.Parts.{held, IsSplitForm, IsJudged, AreJudged}
 use Rattle.rel_linking.proofs.Views.{bicommand_is}
 
 pub three_items : {X : Type 0} (xs : List X) (d e f : X) → length xs ≡ 3 → xs ≡ get_or xs 0 d ∷ get_or xs 1 e ∷ get_or xs 2 f ∷ []
@@ -59,3 +62,20 @@ split_one (c ∷ e ∷ cs) l r s =
     (subst (λ x. IsSplitOf (Given (BiThen x (BiThen (bicommand_of e) (biblock_of cs)))) l r) (bicommand_is c) s))
 
 pub ruleset split_list = (split_here, split_form, split_one)
+
+-- ---- the one procedure of each unit
+
+one_is : {X : Type 0} (xs : List X) (x : X) → length xs ≡ 1 → x ≡ get_or xs 0 x → xs ≡ x ∷ []
+one_is xs x h e = one_proc xs x h ∙ ap (λ y. y ∷ []) (sym e)
+
+pub judged_alone : (l r : U.UnitItem) (j : J.Judgement) (p q : Q.Proc) (b : Bool) → length l.procs ≡ 1 → length r.procs ≡ 1 → p ≡ get_or l.procs 0 p → q ≡ get_or r.procs 0 q
+    → IsTrue b ↔ IsJudged (held l p r q j) → IsTrue b ↔ AreJudged l r j
+judged_alone l r j p q b hl hr el er h =
+    let left = one_is l.procs p hl el in
+    let right = one_is r.procs q hr er in (
+      λ t. record { left_proc = p; right_proc = q; left = left; right = right; judged = h.0 t },
+      λ k.
+          let lp : k.left_proc ≡ p = let both = sym k.left ∙ left in cc in
+          let rp : k.right_proc ≡ q = let both = sym k.right ∙ right in cc in
+          h.1 (subst (λ x. IsJudged (held l x r q j)) lp (subst (λ y. IsJudged (held l k.left_proc r y j)) rp k.judged)),
+    )

@@ -115,8 +115,8 @@ module _ (u : UnitItem) (t : Ty) (writes : List Effect) (distinct : AreDistinct 
   target_apart x which v s =
       found_before x (unit_globals u) t (λ f. (write_variable f v s).vars o y ≡ s.vars o y)
       (λ w e. write_apart w v s o y (⊎_elim
-        (λ is. absurd (no_result u distinct w (subst (λ z. find_variable z (unit_globals u) ≡ Some w) is e)))
-        (λ l. subst (λ f. is_found o y f ≡ false) e (listed_apart (unit_globals u) o y x writes none l)) which))
+      (λ is. absurd (no_result u distinct w (subst (λ z. find_variable z (unit_globals u) ≡ Some w) is e)))
+      (λ l. subst (λ f. is_found o y f ≡ false) e (listed_apart (unit_globals u) o y x writes none l)) which))
       (λ e. elim (bytes_eq x result_name) as (λ b. (write_variable (if b then Some the_result else None) v s).vars o y ≡ s.vars o y) [
         | true ↦ write_apart the_result v s o y (not_the_calls o y result_name other)
         | false ↦ refl
@@ -163,8 +163,8 @@ module _ (tables : Tables) (u : UnitItem) (q : Proc) (distinct : AreDistinct (re
   keeps o y other none =
       final_keeps q.spec.writes tables (body_scope the_setting) o y
       (subst (λ sc. (x : Word) → (x ≡ result_name) ⊎ IsListed q.spec.writes x → (v : Value) (t : State) → (write_variable (find_variable x sc) v t).vars o y ≡ t.vars o y)
-        (sym (body_is u q plain.params plain.locals))
-        (target_apart u q.result q.spec.writes distinct o y other (or_false _ none)))
+      (sym (body_is u q plain.params plain.locals))
+      (target_apart u q.result q.spec.writes distinct o y other (or_false _ none)))
       q.body.commands entry plain.lists
 
   pub ends_well : EndsWell tables (unit_contract u q) entry end

@@ -16,8 +16,6 @@ use Rattle.rel_linking.specs.Form.{Parts, IsStraight}
 use Rattle.rel_linking.specs.Parts.{AreJudged}
 use Rattle.rel_linking.specs.Obligation.{Store, Walked, walk, obligation_of}
 
-
-
 abbrev pub entry_of : Variable → Word × Trm
 entry_of v = (v.name, trm_of v.term)
 

@@ -1,5 +1,7 @@
 //! Which bundles can be judged.
 
+mod judged;
 mod plain;
 mod scope;
 
+pub use judged::are_judged;
