@@ -167,3 +167,322 @@ pub enum Item {
 pub struct Bundle {
     pub items: List<Item>,
 }
+
+impl Decl {
+    pub fn copy(&self) -> Result<Decl, Memory>
+        ensures { IfOk result (λ d. d ≡ self.now) }
+    {
+        let (name, ty) = both(self.name.copy(), self.ty.copy())?;
+        Ok(Decl { name, ty })
+    }
+}
+
+impl Copies for Decl {
+    fn copied(&self) -> Result<Decl, Memory> {
+        self.copy()
+    }
+}
+
+impl Place {
+    pub fn copy(&self) -> Result<Place, Memory>
+        ensures { IfOk result (λ p. p ≡ self.now) }
+    {
+        let (region, field) = both(self.region.copy(), self.field.copy())?;
+        Ok(Place { region, field })
+    }
+}
+
+impl Copies for Place {
+    fn copied(&self) -> Result<Place, Memory> {
+        self.copy()
+    }
+}
+
+impl Effect {
+    pub fn copy(&self) -> Result<Effect, Memory>
+        ensures { IfOk result (λ e. e ≡ self.now) }
+    {
+        match self {
+            Effect::Var(name) => Ok(Effect::Var(name.copy()?)),
+            Effect::At(place) => Ok(Effect::At(place.copy()?)),
+        }
+    }
+}
+
+impl Copies for Effect {
+    fn copied(&self) -> Result<Effect, Memory> {
+        self.copy()
+    }
+}
+
+impl Clause {
+    pub fn copy(&self) -> Result<Clause, Memory>
+        ensures { IfOk result (λ c. c ≡ self.now) }
+    {
+        Ok(Clause {
+            at: self.at,
+            formula: self.formula.copy()?,
+        })
+    }
+}
+
+impl RelClause {
+    pub fn copy(&self) -> Result<RelClause, Memory>
+        ensures { IfOk result (λ c. c ≡ self.now) }
+    {
+        Ok(RelClause {
+            at: self.at,
+            formula: self.formula.copy()?,
+        })
+    }
+}
+
+impl Spec {
+    pub fn copy(&self) -> Result<Spec, Memory>
+        ensures { IfOk result (λ s. s ≡ self.now) }
+    {
+        let clauses = both(self.needs.copy(), self.gives.copy());
+        let ((needs, gives), writes) = both(clauses, self.writes.copied())?;
+        Ok(Spec {
+            needs,
+            gives,
+            writes,
+        })
+    }
+}
+
+impl Body {
+    pub fn copy(&self) -> Result<Body, Memory>
+        ensures { IfOk result (λ b. b ≡ self.now) }
+    {
+        let (locals, commands) = both(self.locals.copied(), self.commands.copied())?;
+        Ok(Body {
+            at: self.at,
+            locals,
+            commands,
+        })
+    }
+}
+
+impl Copies for Body {
+    fn copied(&self) -> Result<Body, Memory> {
+        self.copy()
+    }
+}
+
+impl Proc {
+    pub fn copy(&self) -> Result<Proc, Memory>
+        ensures { IfOk result (λ p. p ≡ self.now) }
+    {
+        let heading = both(self.name.copy(), self.params.copied());
+        let contract = both(self.result.copy(), self.spec.copy());
+        let ((name, params), ((result, spec), body)) = both(
+            heading,
+            both(contract, self.body.copy()),
+        )?;
+        Ok(Proc {
+            at: self.at,
+            name,
+            params,
+            result,
+            spec,
+            body,
+        })
+    }
+}
+
+impl Copies for Proc {
+    fn copied(&self) -> Result<Proc, Memory> {
+        self.copy()
+    }
+}
+
+impl Sig {
+    pub fn copy(&self) -> Result<Sig, Memory>
+        ensures { IfOk result (λ s. s ≡ self.now) }
+    {
+        let heading = both(self.name.copy(), self.params.copied());
+        let contract = both(self.result.copy(), self.spec.copy());
+        let ((name, params), (result, spec)) = both(heading, contract)?;
+        Ok(Sig {
+            at: self.at,
+            name,
+            params,
+            result,
+            spec,
+        })
+    }
+}
+
+impl Copies for Sig {
+    fn copied(&self) -> Result<Sig, Memory> {
+        self.copy()
+    }
+}
+
+impl Class {
+    pub fn copy(&self) -> Result<Class, Memory>
+        ensures { IfOk result (λ c. c ≡ self.now) }
+    {
+        let (name, fields) = both(self.name.copy(), self.fields.copied())?;
+        Ok(Class {
+            at: self.at,
+            name,
+            fields,
+        })
+    }
+}
+
+impl Interface {
+    pub fn copy(&self) -> Result<Interface, Memory>
+        ensures { IfOk result (λ i. i ≡ self.now) }
+    {
+        let state = both(self.name.copy(), self.globals.copied());
+        let public = both(self.boundary.copied(), self.methods.copied());
+        let init = both(self.init_ensures.copy(), self.init_writes.copied());
+        let ((name, globals), ((boundary, methods), (init_ensures, init_writes))) = both(
+            state,
+            both(public, init),
+        )?;
+        Ok(Interface {
+            at: self.at,
+            name,
+            globals,
+            boundary_at: self.boundary_at,
+            boundary,
+            init_ensures,
+            init_writes,
+            methods,
+        })
+    }
+}
+
+impl Module {
+    pub fn copy(&self) -> Result<Module, Memory>
+        ensures { IfOk result (λ m. m ≡ self.now) }
+    {
+        let names = both(self.name.copy(), self.interface.copy());
+        let state = both(self.globals.copied(), self.invariant.copy());
+        let bodies = both(self.init.copy(), self.methods.copied());
+        let ((name, interface), ((globals, invariant), (init, methods))) = both(
+            names,
+            both(state, bodies),
+        )?;
+        Ok(Module {
+            at: self.at,
+            name,
+            interface,
+            globals,
+            invariant,
+            init,
+            methods,
+        })
+    }
+}
+
+impl UnitItem {
+    pub fn copy(&self) -> Result<UnitItem, Memory>
+        ensures { IfOk result (λ u. u ≡ self.now) }
+    {
+        let members = both(self.globals.copied(), self.procs.copied());
+        let (name, (globals, procs)) = both(self.name.copy(), members)?;
+        Ok(UnitItem {
+            at: self.at,
+            name,
+            globals,
+            procs,
+        })
+    }
+}
+
+impl Client {
+    pub fn copy(&self) -> Result<Client, Memory>
+        ensures { IfOk result (λ c. c ≡ self.now) }
+    {
+        let names = both(self.name.copy(), self.interface.copy());
+        let members = both(self.globals.copied(), self.procs.copied());
+        let ((name, interface), (globals, procs)) = both(names, members)?;
+        Ok(Client {
+            at: self.at,
+            name,
+            interface,
+            globals,
+            procs,
+        })
+    }
+}
+
+impl Judgement {
+    pub fn copy(&self) -> Result<Judgement, Memory>
+        ensures { IfOk result (λ j. j ≡ self.now) }
+    {
+        let sides = both(self.left.copied(), self.right.copied());
+        let clauses = both(self.needs.copy(), self.gives.copy());
+        let rest = both(self.name.copy(), self.align.copy());
+        let ((left, right), ((needs, gives), (name, align))) = both(sides, both(clauses, rest))?;
+        Ok(Judgement {
+            at: self.at,
+            name,
+            left,
+            right,
+            needs,
+            gives,
+            align,
+        })
+    }
+}
+
+impl Pair {
+    pub fn copy(&self) -> Result<Pair, Memory>
+        ensures { IfOk result (λ p. p ≡ self.now) }
+    {
+        let modules = both(self.left.copy(), self.right.copy());
+        let heading = both(self.name.copy(), self.coupling.copy());
+        let aligned = both(self.init.copied(), self.methods.copied());
+        let ((left, right), ((name, coupling), (init, methods))) = both(
+            modules,
+            both(heading, aligned),
+        )?;
+        Ok(Pair {
+            at: self.at,
+            name,
+            left,
+            right,
+            coupling,
+            init,
+            methods,
+        })
+    }
+}
+
+impl Item {
+    pub fn copy(&self) -> Result<Item, Memory>
+        ensures { IfOk result (λ i. i ≡ self.now) }
+    {
+        match self {
+            Item::Class(class) => Ok(Item::Class(class.copy()?)),
+            Item::Interface(interface) => Ok(Item::Interface(interface.copy()?)),
+            Item::Module(module) => Ok(Item::Module(module.copy()?)),
+            Item::UnitItem(unit) => Ok(Item::UnitItem(unit.copy()?)),
+            Item::Client(client) => Ok(Item::Client(client.copy()?)),
+            Item::Judge(judgement) => Ok(Item::Judge(judgement.copy()?)),
+            Item::Pair(pair) => Ok(Item::Pair(pair.copy()?)),
+        }
+    }
+}
+
+impl Copies for Item {
+    fn copied(&self) -> Result<Item, Memory> {
+        self.copy()
+    }
+}
+
+impl Bundle {
+    pub fn copy(&self) -> Result<Bundle, Memory>
+        ensures { IfOk result (λ b. b ≡ self.now) }
+    {
+        Ok(Bundle {
+            items: self.items.copied()?,
+        })
+    }
+}

@@ -3,7 +3,7 @@
 ghost use Rattle.std.specs.Prelude.{◌≡◌, ◌↔◌, IfOk, IsTrue};
 ghost use Rattle.rel_lang.specs.View.{expression_of};
 
-use rel_list::{Boxed, Copies, Memory, Name};
+use rel_list::{Boxed, Copies, Memory, Name, both};
 
 /// The type of a variable, a field or a result.
 #[derive(Debug, Drop)]
@@ -79,16 +79,40 @@ impl Expr {
             Expr::Null => Ok(Expr::Null),
             Expr::Empty => Ok(Expr::Empty),
             Expr::Alloc => Ok(Expr::Alloc),
-            Expr::Add(a, b) => Ok(Expr::Add(copy_boxed(a)?, copy_boxed(b)?)),
-            Expr::Sub(a, b) => Ok(Expr::Sub(copy_boxed(a)?, copy_boxed(b)?)),
+            Expr::Add(a, b) => {
+                let (a, b) = copy_pair(a, b)?;
+                Ok(Expr::Add(a, b))
+            }
+            Expr::Sub(a, b) => {
+                let (a, b) = copy_pair(a, b)?;
+                Ok(Expr::Sub(a, b))
+            }
             Expr::Mul(n, a) => Ok(Expr::Mul(*n, copy_boxed(a)?)),
-            Expr::Field(a, f) => Ok(Expr::Field(copy_boxed(a)?, f.copy()?)),
+            Expr::Field(a, f) => {
+                let (a, f) = both(copy_boxed(a), f.copy())?;
+                Ok(Expr::Field(a, f))
+            }
             Expr::Single(a) => Ok(Expr::Single(copy_boxed(a)?)),
-            Expr::Union(a, b) => Ok(Expr::Union(copy_boxed(a)?, copy_boxed(b)?)),
-            Expr::Meet(a, b) => Ok(Expr::Meet(copy_boxed(a)?, copy_boxed(b)?)),
-            Expr::Minus(a, b) => Ok(Expr::Minus(copy_boxed(a)?, copy_boxed(b)?)),
-            Expr::Image(a, f) => Ok(Expr::Image(copy_boxed(a)?, f.copy()?)),
-            Expr::Filter(a, class) => Ok(Expr::Filter(copy_boxed(a)?, class.copy()?)),
+            Expr::Union(a, b) => {
+                let (a, b) = copy_pair(a, b)?;
+                Ok(Expr::Union(a, b))
+            }
+            Expr::Meet(a, b) => {
+                let (a, b) = copy_pair(a, b)?;
+                Ok(Expr::Meet(a, b))
+            }
+            Expr::Minus(a, b) => {
+                let (a, b) = copy_pair(a, b)?;
+                Ok(Expr::Minus(a, b))
+            }
+            Expr::Image(a, f) => {
+                let (a, f) = both(copy_boxed(a), f.copy())?;
+                Ok(Expr::Image(a, f))
+            }
+            Expr::Filter(a, class) => {
+                let (a, class) = both(copy_boxed(a), class.copy())?;
+                Ok(Expr::Filter(a, class))
+            }
             Expr::Old(a) => Ok(Expr::Old(copy_boxed(a)?)),
         }
     }
@@ -101,32 +125,22 @@ fn copy_boxed(e: &Boxed<Expr>) -> Result<Boxed<Expr>, Memory>
     e.beside(e.get().copy()?)
 }
 
+#[cycle(copy_expr)]
+fn copy_pair(a: &Boxed<Expr>, b: &Boxed<Expr>) -> Result<(Boxed<Expr>, Boxed<Expr>), Memory>
+    ensures { IfOk result (λ p. (p.0 ≡ a.now) × (p.1 ≡ b.now)) }
+{
+    both(copy_boxed(a), copy_boxed(b))
+}
+
+/// Copies of two expressions.
+pub(crate) fn copy_operands(e: &Expr, f: &Expr) -> Result<(Expr, Expr), Memory>
+    ensures { IfOk result (λ p. (p.0 ≡ e.now) × (p.1 ≡ f.now)) }
+{
+    both(e.copy(), f.copy())
+}
+
 impl Copies for Expr {
     fn copied(&self) -> Result<Expr, Memory> {
         self.copy()
-    }
-}
-
-/// Whether the two are equal.
-pub fn same_expr(a: &Expr, b: &Expr) -> bool
-    ensures { IsTrue result ↔ (expression_of a.now ≡ expression_of b.now) }
-{
-    match a {
-        Expr::Var(x) => matches!(b, Expr::Var(y) if x.is(y)),
-        Expr::Num(m) => matches!(b, Expr::Num(n) if *m == *n),
-        Expr::Null => matches!(b, Expr::Null),
-        Expr::Empty => matches!(b, Expr::Empty),
-        Expr::Alloc => matches!(b, Expr::Alloc),
-        Expr::Add(a, c) => matches!(b, Expr::Add(b, d) if same_expr(a.get(), b.get()) && same_expr(c.get(), d.get())),
-        Expr::Sub(a, c) => matches!(b, Expr::Sub(b, d) if same_expr(a.get(), b.get()) && same_expr(c.get(), d.get())),
-        Expr::Mul(m, a) => matches!(b, Expr::Mul(n, b) if *m == *n && same_expr(a.get(), b.get())),
-        Expr::Field(a, f) => matches!(b, Expr::Field(b, g) if same_expr(a.get(), b.get()) && f.is(g)),
-        Expr::Single(a) => matches!(b, Expr::Single(b) if same_expr(a.get(), b.get())),
-        Expr::Union(a, c) => matches!(b, Expr::Union(b, d) if same_expr(a.get(), b.get()) && same_expr(c.get(), d.get())),
-        Expr::Meet(a, c) => matches!(b, Expr::Meet(b, d) if same_expr(a.get(), b.get()) && same_expr(c.get(), d.get())),
-        Expr::Minus(a, c) => matches!(b, Expr::Minus(b, d) if same_expr(a.get(), b.get()) && same_expr(c.get(), d.get())),
-        Expr::Image(a, f) => matches!(b, Expr::Image(b, g) if same_expr(a.get(), b.get()) && f.is(g)),
-        Expr::Filter(a, c) => matches!(b, Expr::Filter(b, d) if same_expr(a.get(), b.get()) && c.is(d)),
-        Expr::Old(a) => matches!(b, Expr::Old(b) if same_expr(a.get(), b.get())),
     }
 }

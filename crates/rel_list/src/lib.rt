@@ -237,6 +237,13 @@ impl<A: Copies, B: Copies> Copies for (A, B) {
     }
 }
 
+impl<A: Copies, B: Copies, C: Copies> Copies for (A, B, C) {
+    fn copied(&self) -> Result<(A, B, C), Memory> {
+        let (a, b) = both(self.0.copied(), self.1.copied())?;
+        Ok((a, b, self.2.copied()?))
+    }
+}
+
 impl<T: Copies> Copies for List<T> {
     fn copied(&self) -> Result<List<T>, Memory> {
         let mut copies = self.empty_beside();
