@@ -1,9 +1,11 @@
 //! Commands.
 
 ghost use Rattle.std.specs.Prelude.{◌≡◌, ◌↔◌, IfOk, IsTrue};
+ghost use Rattle.rel_lang.specs.Syntax.{without_at, form_without_at};
+ghost use Rattle.rel_lang.specs.View.{form_of, block_of};
 
-use crate::expr::Expr;
-use crate::formula::Formula;
+use crate::expr::{Expr, same_expr, same_exprs};
+use crate::formula::{Formula, same_formula};
 use rel_list::{Copies, List, Memory, Name, both};
 
 /// A command, and the byte where it begins.
@@ -98,4 +100,44 @@ fn copy_block(commands: &List<Command>) -> Result<List<Command>, Memory>
         copies.items.push(command.copy()?)?;
     }
     Ok(copies)
+}
+
+/// Whether the two are equal but for `at`.
+#[cycle(same_commands)]
+#[tactic(auto, using(crate::proofs::Same::same_lists))]
+pub fn same_commands(a: &List<Command>, b: &List<Command>) -> bool
+    ensures { IsTrue result ↔ (without_at (block_of a.now) ≡ without_at (block_of b.now)) }
+{
+    if a.len() != b.len() {
+        return false;
+    }
+    for i in 0..a.len() {
+        if !same_form(&a.at(i).form, &b.at(i).form) {
+            return false;
+        }
+    }
+    true
+}
+
+#[cycle(same_commands)]
+#[tactic(auto, using(crate::proofs::Same::same_inside))]
+fn same_form(a: &Form, b: &Form) -> bool
+    ensures { IsTrue result ↔ (form_without_at (form_of a.now) ≡ form_without_at (form_of b.now)) }
+{
+    match a {
+        Form::Skip => matches!(b, Form::Skip),
+        Form::Assign(x, e) => matches!(b, Form::Assign(y, f) if x.is(y) && same_expr(e, f)),
+        Form::Load(x, y, f) => matches!(b, Form::Load(z, w, g) if x.is(z) && y.is(w) && f.is(g)),
+        Form::Store(x, f, e) =>
+            matches!(b, Form::Store(y, g, h) if x.is(y) && f.is(g) && same_expr(e, h)),
+        Form::New(x, c) => matches!(b, Form::New(y, d) if x.is(y) && c.is(d)),
+        Form::Call(x, p, es) =>
+            matches!(b, Form::Call(y, q, fs) if x.is(y) && p.is(q) && same_exprs(es, fs)),
+        Form::If(p, c, d) => {
+            matches!(b, Form::If(q, e, f) if same_formula(p, q) && same_commands(c, e) && same_commands(d, f))
+        }
+        Form::While(p, i, c) => {
+            matches!(b, Form::While(q, j, d) if same_formula(p, q) && same_formula(i, j) && same_commands(c, d))
+        }
+    }
 }

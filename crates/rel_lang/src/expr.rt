@@ -1,9 +1,9 @@
 //! Types and expressions.
 
-ghost use Rattle.std.specs.Prelude.{◌≡◌, ◌↔◌, IfOk, IsTrue};
+ghost use Rattle.std.specs.Prelude.{◌≡◌, ◌↔◌, IfOk, IsTrue, map};
 ghost use Rattle.rel_lang.specs.View.{expression_of};
 
-use rel_list::{Boxed, Copies, Memory, Name, both};
+use rel_list::{Boxed, Copies, List, Memory, Name, both};
 
 /// The type of a variable, a field or a result.
 #[derive(Debug, Drop)]
@@ -143,4 +143,52 @@ impl Copies for Expr {
     fn copied(&self) -> Result<Expr, Memory> {
         self.copy()
     }
+}
+
+/// Whether the two are equal.
+#[cycle(same_expr)]
+pub fn same_expr(a: &Expr, b: &Expr) -> bool
+    ensures { IsTrue result ↔ (expression_of a.now ≡ expression_of b.now) }
+{
+    match a {
+        Expr::Var(x) => matches!(b, Expr::Var(y) if x.is(y)),
+        Expr::Num(m) => matches!(b, Expr::Num(n) if *m == *n),
+        Expr::Null => matches!(b, Expr::Null),
+        Expr::Empty => matches!(b, Expr::Empty),
+        Expr::Alloc => matches!(b, Expr::Alloc),
+        Expr::Add(a, c) => matches!(b, Expr::Add(b, d) if same_boxed(a, b) && same_boxed(c, d)),
+        Expr::Sub(a, c) => matches!(b, Expr::Sub(b, d) if same_boxed(a, b) && same_boxed(c, d)),
+        Expr::Mul(m, a) => matches!(b, Expr::Mul(n, b) if *m == *n && same_boxed(a, b)),
+        Expr::Field(a, f) => matches!(b, Expr::Field(b, g) if same_boxed(a, b) && f.is(g)),
+        Expr::Single(a) => matches!(b, Expr::Single(b) if same_boxed(a, b)),
+        Expr::Union(a, c) => matches!(b, Expr::Union(b, d) if same_boxed(a, b) && same_boxed(c, d)),
+        Expr::Meet(a, c) => matches!(b, Expr::Meet(b, d) if same_boxed(a, b) && same_boxed(c, d)),
+        Expr::Minus(a, c) => matches!(b, Expr::Minus(b, d) if same_boxed(a, b) && same_boxed(c, d)),
+        Expr::Image(a, f) => matches!(b, Expr::Image(b, g) if same_boxed(a, b) && f.is(g)),
+        Expr::Filter(a, c) => matches!(b, Expr::Filter(b, d) if same_boxed(a, b) && c.is(d)),
+        Expr::Old(a) => matches!(b, Expr::Old(b) if same_boxed(a, b)),
+    }
+}
+
+#[cycle(same_expr)]
+fn same_boxed(a: &Boxed<Expr>, b: &Boxed<Expr>) -> bool
+    ensures { IsTrue result ↔ (expression_of a.now ≡ expression_of b.now) }
+{
+    same_expr(a.get(), b.get())
+}
+
+/// Whether the two lists are equal.
+#[tactic(auto, using(crate::proofs::Same::same_lists))]
+pub(crate) fn same_exprs(a: &List<Expr>, b: &List<Expr>) -> bool
+    ensures { IsTrue result ↔ (map expression_of a.now ≡ map expression_of b.now) }
+{
+    if a.len() != b.len() {
+        return false;
+    }
+    for i in 0..a.len() {
+        if !same_expr(a.at(i), b.at(i)) {
+            return false;
+        }
+    }
+    true
 }

@@ -3,7 +3,7 @@
 ghost use Rattle.std.specs.Prelude.{◌≡◌, ◌↔◌, IfOk, IsTrue};
 ghost use Rattle.rel_lang.specs.View.{formula_of};
 
-use crate::expr::{Expr, copy_operands};
+use crate::expr::{Expr, copy_operands, same_expr};
 use rel_list::{Boxed, Copies, Memory, Name, both};
 
 /// A formula. A quantifier has the variable, its class, the region that it ranges over, and the body.
@@ -110,4 +110,41 @@ impl Copies for Formula {
     fn copied(&self) -> Result<Formula, Memory> {
         self.copy()
     }
+}
+
+/// Whether the two are equal.
+#[cycle(same_formula)]
+pub fn same_formula(a: &Formula, b: &Formula) -> bool
+    ensures { IsTrue result ↔ (formula_of a.now ≡ formula_of b.now) }
+{
+    match a {
+        Formula::True => matches!(b, Formula::True),
+        Formula::False => matches!(b, Formula::False),
+        Formula::Eq(e, f) => matches!(b, Formula::Eq(g, h) if same_expr(e, g) && same_expr(f, h)),
+        Formula::Lt(e, f) => matches!(b, Formula::Lt(g, h) if same_expr(e, g) && same_expr(f, h)),
+        Formula::Le(e, f) => matches!(b, Formula::Le(g, h) if same_expr(e, g) && same_expr(f, h)),
+        Formula::Member(e, f) =>
+            matches!(b, Formula::Member(g, h) if same_expr(e, g) && same_expr(f, h)),
+        Formula::Subset(e, f) =>
+            matches!(b, Formula::Subset(g, h) if same_expr(e, g) && same_expr(f, h)),
+        Formula::Not(p) => matches!(b, Formula::Not(q) if same_boxed(p, q)),
+        Formula::And(p, q) =>
+            matches!(b, Formula::And(r, s) if same_boxed(p, r) && same_boxed(q, s)),
+        Formula::Or(p, q) => matches!(b, Formula::Or(r, s) if same_boxed(p, r) && same_boxed(q, s)),
+        Formula::Implies(p, q) =>
+            matches!(b, Formula::Implies(r, s) if same_boxed(p, r) && same_boxed(q, s)),
+        Formula::Every(x, c, e, p) => {
+            matches!(b, Formula::Every(y, d, f, q) if x.is(y) && c.is(d) && same_expr(e, f) && same_boxed(p, q))
+        }
+        Formula::Exists(x, c, e, p) => {
+            matches!(b, Formula::Exists(y, d, f, q) if x.is(y) && c.is(d) && same_expr(e, f) && same_boxed(p, q))
+        }
+    }
+}
+
+#[cycle(same_formula)]
+fn same_boxed(a: &Boxed<Formula>, b: &Boxed<Formula>) -> bool
+    ensures { IsTrue result ↔ (formula_of a.now ≡ formula_of b.now) }
+{
+    same_formula(a.get(), b.get())
 }

@@ -7,3 +7,5 @@ pub mod command;
 pub mod expr;
 pub mod formula;
 pub mod relation;
+#[cfg(test)]
+mod tests;
