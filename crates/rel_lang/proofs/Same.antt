@@ -1,11 +1,11 @@
 -- Two lists of trees that are equal, and two lists of commands that are equal but for `at`.
 use Rattle.std.proofs.Common.{◌≡◌, ℕ, ◌+◌, ◌<◌, ◌≤◌, List, [], ◌∷◌, ◌++◌, length, get_or, take, map, sym, ap, refl, ◌∙◌}
 use Rattle.std.proofs.lemmas.List.{map_more, get_or-map, length-map, take_all}
-use Rattle.rel_lang.specs.Syntax.{Form, Block, End, Then, At, If, While, without_at, form_without_at}
-use Rattle.rel_lang.specs.declared.formula.Formula.{Formula}
+use Rattle.rel_lang.specs.Syntax.{Form, Block, End, Then, At, without_at, form_without_at, command_without_at}
+use Rattle.rel_lang.specs.Syntax as syntax
 use Rattle.rel_lang.specs.declared.command.Command.{Command}
-use Rattle.rel_lang.specs.declared.command.Form.TheVariants as F
-use Rattle.rel_lang.specs.View.{formula_of, form_of, command_of, block_of, block_from}
+use Rattle.rel_lang.specs.declared.command.Form.TheFolds.{fold_out-Command}
+use Rattle.rel_lang.specs.View.{form_of, form_step, command_of, command_step, block_of, block_from}
 
 -- a command without its place
 abbrev pub plain : Command → Form
@@ -40,9 +40,13 @@ unblocked_blocked : (fs : List Form) → unblocked (blocked fs) ≡ fs
 unblocked_blocked [] = refl
 unblocked_blocked (f ∷ fs) = ap (λ l. f ∷ l) (unblocked_blocked fs)
 
+command_is : (c : Command) → command_of c ≡ At c.at (form_of c.form)
+command_is c = fold_out-Command Form syntax.Command form_step command_step c
+
 without_at_is : (cs : List Command) → without_at (block_of cs) ≡ blocked (map plain cs)
 without_at_is [] = refl
-without_at_is (c ∷ cs) = ap (λ b. Then (At 0 (plain c)) b) (without_at_is cs)
+without_at_is (c ∷ cs) =
+    ap (λ d. Then (command_without_at d) (without_at (block_of cs))) (command_is c) ∙ ap (λ b. Then (At 0 (plain c)) b) (without_at_is cs)
 
 pub same_blocks : (a b : List Command) → map plain a ≡ map plain b → without_at (block_of a) ≡ without_at (block_of b)
 same_blocks a b e = without_at_is a ∙ ap blocked e ∙ sym (without_at_is b)
