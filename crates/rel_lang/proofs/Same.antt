@@ -1,11 +1,13 @@
 -- Two lists of trees that are equal, and two lists of commands that are equal but for `at`.
-use Rattle.std.proofs.Common.{◌≡◌, ℕ, ◌+◌, ◌<◌, ◌≤◌, List, [], ◌∷◌, ◌++◌, length, get_or, take, map, sym, ap, refl, ◌∙◌}
+use Rattle.std.proofs.Common.{◌≡◌, ℕ, ◌+◌, ◌<◌, ◌≤◌, List, [], ◌∷◌, ◌++◌, length, get_or, take, map, sym, ap, refl, ◌∙◌, rules}
 use Rattle.std.proofs.lemmas.List.{map_more, get_or-map, length-map, take_all}
 use Rattle.rel_lang.specs.Syntax.{Form, Block, End, Then, At, without_at, form_without_at, command_without_at}
 use Rattle.rel_lang.specs.Syntax as syntax
 use Rattle.rel_lang.specs.declared.command.Command.{Command}
+use Rattle.rel_lang.specs.declared.command.Form as F
 use Rattle.rel_lang.specs.declared.command.Form.TheFolds.{fold_out-Command}
-use Rattle.rel_lang.specs.View.{form_of, form_step, command_of, command_step, block_of, block_from}
+use Rattle.rel_lang.specs.declared.formula.Formula as P
+use Rattle.rel_lang.specs.View.{formula_of, form_of, form_step, command_of, command_step, block_of, block_from}
 
 -- a command without its place
 abbrev pub plain : Command → Form
@@ -62,4 +64,45 @@ pub block_is : (cs : List Command) → block_from (map command_of cs) ≡ block_
 block_is [] = refl
 block_is (c ∷ cs) = ap (λ b. Then (command_of c) b) (block_is cs)
 
-pub ruleset same_inside = (block_is)
+-- how an `if` and a `while` are read
+if_is : (p : P.Formula) (c d : List Command) → form_of (F.If p c d) ≡ syntax.If (formula_of p) (block_of c) (block_of d)
+if_is p c d = search (rules, F.the_lemmas, block_is)
+
+while_is : (p i : P.Formula) (c : List Command) → form_of (F.While p i c) ≡ syntax.While (formula_of p) (formula_of i) (block_of c)
+while_is p i c = search (rules, F.the_lemmas, block_is)
+
+pub same_if : (a b : F.Form) (p q : P.Formula) (c d e f : List Command) → a ≡ F.If p c d → b ≡ F.If q e f
+    → formula_of p ≡ formula_of q → without_at (block_of c) ≡ without_at (block_of e) → without_at (block_of d) ≡ without_at (block_of f)
+    → form_without_at (form_of a) ≡ form_without_at (form_of b)
+same_if a b p q c d e f is_a is_b tests first second =
+    ap (λ g. form_without_at (form_of g)) is_a ∙ ap form_without_at (if_is p c d)
+    ∙ ap (λ r. syntax.If r (without_at (block_of c)) (without_at (block_of d))) tests
+    ∙ ap (λ r. syntax.If (formula_of q) r (without_at (block_of d))) first
+    ∙ ap (λ r. syntax.If (formula_of q) (without_at (block_of e)) r) second
+    ∙ sym (ap (λ g. form_without_at (form_of g)) is_b ∙ ap form_without_at (if_is q e f))
+
+pub same_while : (a b : F.Form) (p q i j : P.Formula) (c d : List Command) → a ≡ F.While p i c → b ≡ F.While q j d
+    → formula_of p ≡ formula_of q → formula_of i ≡ formula_of j → without_at (block_of c) ≡ without_at (block_of d)
+    → form_without_at (form_of a) ≡ form_without_at (form_of b)
+same_while a b p q i j c d is_a is_b tests invariants body =
+    ap (λ g. form_without_at (form_of g)) is_a ∙ ap form_without_at (while_is p i c)
+    ∙ ap (λ r. syntax.While r (formula_of i) (without_at (block_of c))) tests
+    ∙ ap (λ r. syntax.While (formula_of q) r (without_at (block_of c))) invariants
+    ∙ ap (λ r. syntax.While (formula_of q) (formula_of j) r) body
+    ∙ sym (ap (λ g. form_without_at (form_of g)) is_b ∙ ap form_without_at (while_is q j d))
+
+pub if_parts : (a b : F.Form) (p q : P.Formula) (c d e f : List Command) → a ≡ F.If p c d → b ≡ F.If q e f
+    → form_without_at (form_of a) ≡ form_without_at (form_of b)
+    → (without_at (block_of c) ≡ without_at (block_of e)) × (without_at (block_of d) ≡ without_at (block_of f))
+if_parts a b p q c d e f is_a is_b same =
+    let k : syntax.If (formula_of p) (without_at (block_of c)) (without_at (block_of d)) ≡ syntax.If (formula_of q) (without_at (block_of e)) (without_at (block_of f)) =
+    sym (ap (λ g. form_without_at (form_of g)) is_a ∙ ap form_without_at (if_is p c d)) ∙ same ∙ ap (λ g. form_without_at (form_of g)) is_b ∙ ap form_without_at (if_is q e f) in
+    (cc, cc)
+
+pub while_parts : (a b : F.Form) (p q i j : P.Formula) (c d : List Command) → a ≡ F.While p i c → b ≡ F.While q j d
+    → form_without_at (form_of a) ≡ form_without_at (form_of b)
+    → without_at (block_of c) ≡ without_at (block_of d)
+while_parts a b p q i j c d is_a is_b same =
+    let k : syntax.While (formula_of p) (formula_of i) (without_at (block_of c)) ≡ syntax.While (formula_of q) (formula_of j) (without_at (block_of d)) =
+    sym (ap (λ g. form_without_at (form_of g)) is_a ∙ ap form_without_at (while_is p i c)) ∙ same ∙ ap (λ g. form_without_at (form_of g)) is_b ∙ ap form_without_at (while_is q j d) in
+    cc

@@ -7,5 +7,3 @@ pub mod command;
 pub mod expr;
 pub mod formula;
 pub mod relation;
-#[cfg(test)]
-mod tests;
