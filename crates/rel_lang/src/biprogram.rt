@@ -67,3 +67,142 @@ pub enum Align {
     Given(List<BiCommand>),
     Woven(List<WeaveStep>),
 }
+
+impl BiCommand {
+    #[cycle(copy_bicommand)]
+    pub fn copy(&self) -> Result<BiCommand, Memory>
+        ensures { IfOk result (λ c. c ≡ self.now) }
+    {
+        Ok(BiCommand {
+            at: self.at,
+            form: self.form.copy()?,
+        })
+    }
+}
+
+impl Copies for BiCommand {
+    fn copied(&self) -> Result<BiCommand, Memory> {
+        self.copy()
+    }
+}
+
+impl BiForm {
+    #[cycle(copy_bicommand)]
+    pub fn copy(&self) -> Result<BiForm, Memory>
+        ensures { IfOk result (λ f. f ≡ self.now) }
+    {
+        match self {
+            BiForm::Split(left, right) => {
+                let (left, right) = both(left.copied(), right.copied())?;
+                Ok(BiForm::Split(left, right))
+            }
+            BiForm::Sync(atom) => Ok(BiForm::Sync(atom.copy()?)),
+            BiForm::SyncCall(call, judgement) => {
+                let (call, judgement) = both(call.copy(), judgement.copy())?;
+                Ok(BiForm::SyncCall(call, judgement))
+            }
+            BiForm::If(left, right, yes, no) => {
+                let tests = both(left.copy(), right.copy());
+                let blocks = both(copy_block(yes), copy_block(no));
+                let ((left, right), (yes, no)) = both(tests, blocks)?;
+                Ok(BiForm::If(left, right, yes, no))
+            }
+            BiForm::While(head, body) => {
+                let (head, body) = both(head.copy(), copy_block(body))?;
+                Ok(BiForm::While(head, body))
+            }
+            BiForm::Link(x, y) => {
+                let (x, y) = both(x.copy(), y.copy())?;
+                Ok(BiForm::Link(x, y))
+            }
+            BiForm::Note(r) => Ok(BiForm::Note(r.copy()?)),
+        }
+    }
+}
+
+#[cycle(copy_bicommand)]
+fn copy_block(commands: &List<BiCommand>) -> Result<List<BiCommand>, Memory>
+    ensures { IfOk result (λ c. c ≡ commands.now) }
+{
+    let mut copies = commands.empty_beside();
+    for command in &commands.items {
+        copies.items.push(command.copy()?)?;
+    }
+    Ok(copies)
+}
+
+impl BiLoop {
+    pub fn copy(&self) -> Result<BiLoop, Memory>
+        ensures { IfOk result (λ l. l ≡ self.now) }
+    {
+        let unary = both(self.tests.copied(), self.invs.copied());
+        let relational = both(self.rel.copy(), self.guards.copied());
+        let ((tests, invs), (rel, guards)) = both(unary, relational)?;
+        Ok(BiLoop {
+            tests,
+            invs,
+            rel,
+            guards,
+        })
+    }
+}
+
+impl WeaveStep {
+    pub fn copy(&self) -> Result<WeaveStep, Memory>
+        ensures { IfOk result (λ s. s ≡ self.now) }
+    {
+        let (place, act) = both(self.place.copied(), self.act.copy())?;
+        Ok(WeaveStep {
+            at: self.at,
+            place,
+            act,
+        })
+    }
+}
+
+impl Copies for WeaveStep {
+    fn copied(&self) -> Result<WeaveStep, Memory> {
+        self.copy()
+    }
+}
+
+impl Act {
+    pub fn copy(&self) -> Result<Act, Memory>
+        ensures { IfOk result (λ a. a ≡ self.now) }
+    {
+        match self {
+            Act::Seq(left, right) => Ok(Act::Seq(*left, *right)),
+            Act::Sync => Ok(Act::Sync),
+            Act::Call(judgement) => Ok(Act::Call(judgement.copy()?)),
+            Act::If => Ok(Act::If),
+            Act::While(rel, left, right) => {
+                let guards = both(left.copy(), right.copy());
+                let (rel, (left, right)) = both(rel.copy(), guards)?;
+                Ok(Act::While(rel, left, right))
+            }
+            Act::Link(x, y) => {
+                let (x, y) = both(x.copy(), y.copy())?;
+                Ok(Act::Link(x, y))
+            }
+            Act::Note(r) => Ok(Act::Note(r.copy()?)),
+            Act::Drop => Ok(Act::Drop),
+        }
+    }
+}
+
+impl Align {
+    pub fn copy(&self) -> Result<Align, Memory>
+        ensures { IfOk result (λ a. a ≡ self.now) }
+    {
+        match self {
+            Align::Given(commands) => Ok(Align::Given(commands.copied()?)),
+            Align::Woven(steps) => Ok(Align::Woven(steps.copied()?)),
+        }
+    }
+}
+
+impl Copies for Align {
+    fn copied(&self) -> Result<Align, Memory> {
+        self.copy()
+    }
+}

@@ -165,3 +165,105 @@ pub enum Item {
 pub struct Bundle {
     pub items: List<Item>,
 }
+
+impl Decl {
+    pub fn copy(&self) -> Result<Decl, Memory>
+        ensures { IfOk result (λ d. d ≡ self.now) }
+    {
+        let (name, ty) = both(self.name.copy(), self.ty.copy())?;
+        Ok(Decl { name, ty })
+    }
+}
+
+impl Copies for Decl {
+    fn copied(&self) -> Result<Decl, Memory> {
+        self.copy()
+    }
+}
+
+impl Place {
+    pub fn copy(&self) -> Result<Place, Memory>
+        ensures { IfOk result (λ p. p ≡ self.now) }
+    {
+        let (region, field) = both(self.region.copy(), self.field.copy())?;
+        Ok(Place { region, field })
+    }
+}
+
+impl Copies for Place {
+    fn copied(&self) -> Result<Place, Memory> {
+        self.copy()
+    }
+}
+
+impl Effect {
+    pub fn copy(&self) -> Result<Effect, Memory>
+        ensures { IfOk result (λ e. e ≡ self.now) }
+    {
+        match self {
+            Effect::Var(name) => Ok(Effect::Var(name.copy()?)),
+            Effect::At(place) => Ok(Effect::At(place.copy()?)),
+        }
+    }
+}
+
+impl Copies for Effect {
+    fn copied(&self) -> Result<Effect, Memory> {
+        self.copy()
+    }
+}
+
+impl Clause {
+    pub fn copy(&self) -> Result<Clause, Memory>
+        ensures { IfOk result (λ c. c ≡ self.now) }
+    {
+        Ok(Clause {
+            at: self.at,
+            formula: self.formula.copy()?,
+        })
+    }
+}
+
+impl RelClause {
+    pub fn copy(&self) -> Result<RelClause, Memory>
+        ensures { IfOk result (λ c. c ≡ self.now) }
+    {
+        Ok(RelClause {
+            at: self.at,
+            formula: self.formula.copy()?,
+        })
+    }
+}
+
+impl Spec {
+    pub fn copy(&self) -> Result<Spec, Memory>
+        ensures { IfOk result (λ s. s ≡ self.now) }
+    {
+        let clauses = both(self.needs.copy(), self.gives.copy());
+        let ((needs, gives), writes) = both(clauses, self.writes.copied())?;
+        Ok(Spec {
+            needs,
+            gives,
+            writes,
+        })
+    }
+}
+
+impl Body {
+    pub fn copy(&self) -> Result<Body, Memory>
+        ensures { IfOk result (λ b. b ≡ self.now) }
+    {
+        let (locals, commands) = both(self.locals.copied(), self.commands.copied())?;
+        Ok(Body {
+            at: self.at,
+            locals,
+            commands,
+        })
+    }
+}
+
+impl Copies for Body {
+    fn copied(&self) -> Result<Body, Memory> {
+        self.copy()
+    }
+}

@@ -1,12 +1,12 @@
 //! Commands.
 
-ghost use Rattle.std.specs.Prelude.{◌≡◌, ◌↔◌, IsTrue};
+ghost use Rattle.std.specs.Prelude.{◌≡◌, ◌↔◌, IfOk, IsTrue};
 ghost use Rattle.rel_lang.specs.Syntax.{without_at, form_without_at};
 ghost use Rattle.rel_lang.specs.View.{form_of, block_of};
 
 use crate::expr::{Expr, same_expr, same_exprs};
 use crate::formula::{Formula, same_formula};
-use rel_list::{List, Name};
+use rel_list::{Copies, List, Memory, Name, both};
 
 /// A command, and the byte where it begins.
 #[cycle(command)]
@@ -29,6 +29,77 @@ pub enum Form {
     If(Formula, List<Command>, List<Command>),
     /// The test, the invariant and the body.
     While(Formula, Formula, List<Command>),
+}
+
+impl Command {
+    #[cycle(copy_command)]
+    pub fn copy(&self) -> Result<Command, Memory>
+        ensures { IfOk result (λ c. c ≡ self.now) }
+    {
+        Ok(Command {
+            at: self.at,
+            form: self.form.copy()?,
+        })
+    }
+}
+
+impl Copies for Command {
+    fn copied(&self) -> Result<Command, Memory> {
+        self.copy()
+    }
+}
+
+impl Form {
+    #[cycle(copy_command)]
+    pub fn copy(&self) -> Result<Form, Memory>
+        ensures { IfOk result (λ f. f ≡ self.now) }
+    {
+        match self {
+            Form::Skip => Ok(Form::Skip),
+            Form::Assign(x, e) => {
+                let (x, e) = both(x.copy(), e.copy())?;
+                Ok(Form::Assign(x, e))
+            }
+            Form::Load(x, y, f) => {
+                let (x, (y, f)) = both(x.copy(), both(y.copy(), f.copy()))?;
+                Ok(Form::Load(x, y, f))
+            }
+            Form::Store(y, f, e) => {
+                let ((y, f), e) = both(both(y.copy(), f.copy()), e.copy())?;
+                Ok(Form::Store(y, f, e))
+            }
+            Form::New(x, class) => {
+                let (x, class) = both(x.copy(), class.copy())?;
+                Ok(Form::New(x, class))
+            }
+            Form::Call(x, procedure, arguments) => {
+                let names = both(x.copy(), procedure.copy());
+                let ((x, procedure), arguments) = both(names, arguments.copied())?;
+                Ok(Form::Call(x, procedure, arguments))
+            }
+            Form::If(test, yes, no) => {
+                let blocks = both(copy_block(yes), copy_block(no));
+                let (test, (yes, no)) = both(test.copy(), blocks)?;
+                Ok(Form::If(test, yes, no))
+            }
+            Form::While(test, invariant, body) => {
+                let formulas = both(test.copy(), invariant.copy());
+                let ((test, invariant), body) = both(formulas, copy_block(body))?;
+                Ok(Form::While(test, invariant, body))
+            }
+        }
+    }
+}
+
+#[cycle(copy_command)]
+fn copy_block(commands: &List<Command>) -> Result<List<Command>, Memory>
+    ensures { IfOk result (λ c. c ≡ commands.now) }
+{
+    let mut copies = commands.empty_beside();
+    for command in &commands.items {
+        copies.items.push(command.copy()?)?;
+    }
+    Ok(copies)
 }
 
 /// Whether the two are equal but for `at`.

@@ -3,7 +3,7 @@
 ghost use Rattle.std.specs.Prelude.{◌≡◌, ◌↔◌, IfOk, IsTrue, map};
 ghost use Rattle.rel_lang.specs.View.{expression_of};
 
-use rel_list::{Boxed, Copies, List, Memory, Name};
+use rel_list::{Boxed, Copies, List, Memory, Name, both};
 
 /// The type of a variable, a field or a result.
 #[derive(Debug, Drop)]
@@ -65,6 +65,76 @@ impl Copies for Ty {
 impl Copies for Side {
     fn copied(&self) -> Result<Side, Memory> {
         Ok(*self)
+    }
+}
+
+impl Expr {
+    #[cycle(copy_expr)]
+    pub fn copy(&self) -> Result<Expr, Memory>
+        ensures { IfOk result (λ e. e ≡ self.now) }
+    {
+        match self {
+            Expr::Var(name) => Ok(Expr::Var(name.copy()?)),
+            Expr::Num(n) => Ok(Expr::Num(*n)),
+            Expr::Null => Ok(Expr::Null),
+            Expr::Empty => Ok(Expr::Empty),
+            Expr::Alloc => Ok(Expr::Alloc),
+            Expr::Add(a, b) => {
+                let (a, b) = both(copy_boxed(a), copy_boxed(b))?;
+                Ok(Expr::Add(a, b))
+            }
+            Expr::Sub(a, b) => {
+                let (a, b) = both(copy_boxed(a), copy_boxed(b))?;
+                Ok(Expr::Sub(a, b))
+            }
+            Expr::Mul(n, a) => Ok(Expr::Mul(*n, copy_boxed(a)?)),
+            Expr::Field(a, f) => {
+                let (a, f) = both(copy_boxed(a), f.copy())?;
+                Ok(Expr::Field(a, f))
+            }
+            Expr::Single(a) => Ok(Expr::Single(copy_boxed(a)?)),
+            Expr::Union(a, b) => {
+                let (a, b) = both(copy_boxed(a), copy_boxed(b))?;
+                Ok(Expr::Union(a, b))
+            }
+            Expr::Meet(a, b) => {
+                let (a, b) = both(copy_boxed(a), copy_boxed(b))?;
+                Ok(Expr::Meet(a, b))
+            }
+            Expr::Minus(a, b) => {
+                let (a, b) = both(copy_boxed(a), copy_boxed(b))?;
+                Ok(Expr::Minus(a, b))
+            }
+            Expr::Image(a, f) => {
+                let (a, f) = both(copy_boxed(a), f.copy())?;
+                Ok(Expr::Image(a, f))
+            }
+            Expr::Filter(a, class) => {
+                let (a, class) = both(copy_boxed(a), class.copy())?;
+                Ok(Expr::Filter(a, class))
+            }
+            Expr::Old(a) => Ok(Expr::Old(copy_boxed(a)?)),
+        }
+    }
+}
+
+#[cycle(copy_expr)]
+fn copy_boxed(e: &Boxed<Expr>) -> Result<Boxed<Expr>, Memory>
+    ensures { IfOk result (λ c. c ≡ e.now) }
+{
+    e.beside(e.get().copy()?)
+}
+
+/// Copies of two expressions.
+pub(crate) fn copy_operands(e: &Expr, f: &Expr) -> Result<(Expr, Expr), Memory>
+    ensures { IfOk result (λ p. (p.0 ≡ e.now) × (p.1 ≡ f.now)) }
+{
+    both(e.copy(), f.copy())
+}
+
+impl Copies for Expr {
+    fn copied(&self) -> Result<Expr, Memory> {
+        self.copy()
     }
 }
 
