@@ -5,13 +5,13 @@ use Rattle.std.proofs.lemmas.List.{take_more, take-append-le}
 use Rattle.std.proofs.lemmas.List.Folds.{concat-append}
 use Rattle.std.specs.List.{concat}
 use Rattle.rel_io.specs.Told.{Told, untold, absent, bytes, IsToldAs, Rose, Appends, AppendsFront}
-use Rattle.rel_lang.specs.Syntax.{Bundle}
-use Rattle.rel_lang.specs.TrueBundle.{IsTrueBundle, StandsForTrueBundle}
+use Rattle.straight_lang.specs.Syntax.{Bundle}
+use Rattle.straight_lang.specs.TrueBundle.{IsTrueBundle, StandsForTrueBundle}
 use Rattle.rel_top.specs.declared.check.Answer.{Answer}
 use Rattle.rel_top.specs.declared.status.Status.{Status}
 use Rattle.rel_top.specs.declared.status.Status.TheVariants.{Yes, FileFault, OutputFault, Memory}
 use Rattle.rel_top.specs.Ending.{Words, check_words, Reply, usage, unread, answer, HasReply, status_of, lines_of, Output, output, IsPrinted, IsCutOff, IsSilent, EndsWith, Ends, IsDecided}
-use Rattle.rel_linking.specs.Form.{Parts, HasForm}
+use Rattle.straight_linking.specs.Form.{Parts, HasForm}
 use Rattle.rel_top.specs.Headline.{WhereTold, IsYes}
 use Rattle.rel_top.specs.Judged.{IsOutcomeAnswer, IsProofAnswer, IsPartsAnswer, IsBuiltOnce, IsTextAnswer, IsCheckAnswer, IsReply, IsWordsAnswer, IsPrintedAs, answer_of}
 use Rattle.rel_top.specs.Verdict.{IsBuilt, IsNotBuilt, Outcome, no_proof, bad_step, open_nodes, accepted, HasOutcome, Verdict, no_bundle, judged, outcome_status, HasVerdict}

@@ -9,10 +9,10 @@ use Rattle.rel_io.specs.Answers.{IfFailed, IfTooLong}
 use Rattle.rel_io.specs.declared.files.FileFault.{FileFault}
 use Rattle.rel_io.specs.declared.files.FileFault.TheVariants as faults
 use Rattle.rel_io.specs.Told.{Told, untold, absent, bytes, IsToldAs, IsLonger}
-use Rattle.rel_lang.specs.Syntax.{Bundle}
-use Rattle.rel_lang.specs.Limits.{Fits}
-use Rattle.rel_lang.specs.Text.{StandsFor}
-use Rattle.rel_lang.specs.TrueBundle.{IsTrueBundle}
+use Rattle.straight_lang.specs.Syntax.{Bundle}
+use Rattle.straight_lang.specs.Limits.{Fits}
+use Rattle.straight_lang.specs.Text.{StandsFor}
+use Rattle.straight_lang.specs.TrueBundle.{IsTrueBundle}
 use Rattle.rel_logic.specs.declared.sequent.Sequent.{Sequent}
 use Rattle.rel_logic.specs.Truth.{IsValid}
 use Rattle.rel_logic.specs.View.{sequent_of}
@@ -23,9 +23,9 @@ use Rattle.rel_derive.specs.Rules.{IsAccepted}
 use Rattle.rel_derive.specs.Stack.{IsBadStep, LeavesOpen, IsVerdict}
 use Rattle.rel_top.specs.declared.check.Answer.{Answer}
 use Rattle.rel_top.specs.Ending.{ReadFailed, unread, answer}
-use Rattle.rel_linking.specs.Form.{Parts, HasForm}
+use Rattle.straight_linking.specs.Form.{Parts, HasForm}
 use Rattle.rel_top.specs.Judged.{IsObligation, IsStepsAnswer, IsProofAnswer, IsPartsAnswer, IsBundleAnswer, IsBuiltOnce, IsTextAnswer, IsCheckAnswer, answer_of}
-use Rattle.rel_linking.specs.Obligation.{obligation_of}
+use Rattle.straight_linking.specs.Obligation.{obligation_of}
 use Rattle.rel_top.specs.ProofFile.{proof_of, json_of, steps_of, derivation_of}
 use Rattle.rel_top.proofs.FewSteps.{few_steps}
 use Rattle.rel_top.specs.Verdict.{IsBuilt, Outcome, no_proof, bad_step, open_nodes, accepted, Says, HasOutcome, no_bundle, judged, MayHold}

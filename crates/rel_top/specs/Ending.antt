@@ -4,7 +4,7 @@ use Rattle.std.specs.List.{concat}
 use Rattle.rel_io.specs.Told.{Told, untold, Rose, Appends, AppendsFront}
 use Rattle.rel_top.specs.Report.{usage_line, fault_line}
 use Rattle.rel_top.specs.Verdict.{IsBuilt, Verdict, MayHold, HasVerdict, verdict_status, verdict_lines}
-use Rattle.rel_linking.specs.Form.{Parts}
+use Rattle.straight_linking.specs.Form.{Parts}
 use Rattle.rel_top.specs.declared.status.Status.{Status}
 use Rattle.rel_top.specs.declared.status.Status.TheVariants.{Yes, Refused, Usage, FileFault, OutputFault, Memory, Unproved}
 

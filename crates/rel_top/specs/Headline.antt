@@ -1,7 +1,7 @@
 -- What a yes says.
 use Rattle.std.specs.Prelude.{◌≡◌, ℕ, List, [], ◌∷◌, codes}
 use Rattle.rel_io.specs.Told.{Told, untold, absent, bytes}
-use Rattle.rel_lang.specs.TrueBundle.{StandsForTrueBundle}
+use Rattle.straight_lang.specs.TrueBundle.{StandsForTrueBundle}
 
 -- the bytes are there and have the property, where anything is told of them
 abbrev pub WhereTold : Told → (List ℕ → Type 0) → Type 0

@@ -1,9 +1,9 @@
 -- What the answers of the parts of `check` say, each under a word of its own.
 use Rattle.std.specs.Prelude.{◌≡◌, ◌≢◌, ◌⊎◌, ℕ, List, Some}
 use Rattle.rel_io.specs.Told.{Told, untold}
-use Rattle.rel_lang.specs.Syntax.{Bundle}
-use Rattle.rel_lang.specs.Text.{StandsFor}
-use Rattle.rel_lang.specs.TrueBundle.{IsTrueBundle}
+use Rattle.straight_lang.specs.Syntax.{Bundle}
+use Rattle.straight_lang.specs.Text.{StandsFor}
+use Rattle.straight_lang.specs.TrueBundle.{IsTrueBundle}
 use Rattle.rel_derive.specs.declared.step.Step.{Step}
 use Rattle.rel_logic.specs.declared.sequent.Sequent.{Sequent}
 use Rattle.rel_logic.specs.Truth.{IsValid}
@@ -12,9 +12,9 @@ use Rattle.rel_top.specs.declared.check.Answer.{Answer}
 use Rattle.rel_top.specs.declared.status.Status.{Status}
 use Rattle.rel_top.specs.declared.status.Status.TheVariants.{Yes, OutputFault}
 use Rattle.rel_top.specs.Ending.{Words, check_words, Reply, unread, answer, HasReply, status_of, lines_of, Output, IsPrinted, IsCutOff}
-use Rattle.rel_linking.specs.Form.{Parts, HasForm}
+use Rattle.straight_linking.specs.Form.{Parts, HasForm}
 use Rattle.rel_top.specs.Headline.{IsYes}
-use Rattle.rel_linking.specs.Obligation.{obligation_of}
+use Rattle.straight_linking.specs.Obligation.{obligation_of}
 use Rattle.rel_top.specs.ProofFile.{proof_of}
 use Rattle.rel_top.specs.Verdict.{IsBuilt, IsNotBuilt, Outcome, accepted, HasOutcome, Verdict, no_bundle, judged, MayHold, HasVerdict}
 

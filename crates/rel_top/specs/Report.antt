@@ -1,8 +1,8 @@
 -- The lines that are printed.
 use Rattle.std.specs.Prelude.{ℕ, List, [], ◌∷◌, ◌++◌, codes}
 use Rattle.std.specs.Fmt.{decimal}
-use Rattle.rel_lang.specs.Syntax.{Judgement}
-use Rattle.rel_linking.specs.Form.{Parts}
+use Rattle.straight_lang.specs.Syntax.{Judgement}
+use Rattle.straight_linking.specs.Form.{Parts}
 
 -- a text and the line feed that ends a line
 abbrev pub line : List ℕ → List ℕ

@@ -1,14 +1,14 @@
 -- What the bytes of a bundle and of a proof file come to.
 use Rattle.std.specs.Prelude.{◌≡◌, ℕ, ◌≤◌, ◌^◌, List, [], ◌∷◌, length, None, Some}
 use Rattle.rel_io.specs.Told.{Told, IsToldAs}
-use Rattle.rel_lang.specs.Limits.{Fits}
-use Rattle.rel_lang.specs.Syntax.{Bundle}
-use Rattle.rel_lang.specs.Text.{StandsFor}
+use Rattle.straight_lang.specs.Limits.{Fits}
+use Rattle.straight_lang.specs.Syntax.{Bundle}
+use Rattle.straight_lang.specs.Text.{StandsFor}
 use Rattle.rel_derive.specs.Rules.{IsAccepted}
 use Rattle.rel_derive.specs.Stack.{IsBadStep, LeavesOpen}
 use Rattle.rel_derive.specs.declared.step.Step.{Step}
-use Rattle.rel_linking.specs.Form.{Parts, HasForm}
-use Rattle.rel_linking.specs.Obligation.{obligation_of}
+use Rattle.straight_linking.specs.Form.{Parts, HasForm}
+use Rattle.straight_linking.specs.Obligation.{obligation_of}
 use Rattle.rel_top.specs.ProofFile.{proof_of}
 use Rattle.rel_top.specs.Report.{bundle_line, proof_line, bad_step_line, open_nodes_line, yes_lines}
 use Rattle.rel_top.specs.declared.status.Status.{Status}

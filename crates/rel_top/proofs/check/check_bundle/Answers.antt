@@ -1,5 +1,5 @@
-use Rattle.rel_lang.specs.View.{bundle_of}
-use Rattle.rel_linking.specs.Parts.{parts_view}
+use Rattle.straight_lang.specs.View.{bundle_of}
+use Rattle.straight_linking.specs.Parts.{parts_view}
 use Rattle.rel_top.proofs.Verdicts.{parts_found, no_parts}
 use Rattle.rel_top.proofs.check.check_bundle.Goals as goal
 

@@ -1,5 +1,5 @@
 use Rattle.rel_derive.specs.declared.checker.Verdict.TheVariants.{Accepted, BadStep, OpenNodes}
-use Rattle.rel_linking.specs.Parts.{parts_view}
+use Rattle.straight_linking.specs.Parts.{parts_view}
 use Rattle.rel_top.proofs.Verdicts.{steps_answer}
 use Rattle.rel_top.proofs.check.check_steps.Goals as goal
 

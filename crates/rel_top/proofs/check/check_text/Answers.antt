@@ -1,5 +1,5 @@
 use Rattle.std.proofs.Common.{ap, Err}
-use Rattle.rel_lang.specs.View.{bundle_of}
+use Rattle.straight_lang.specs.View.{bundle_of}
 use Rattle.rel_top.proofs.Verdicts.{bundle_read, text_refused}
 use Rattle.rel_top.proofs.check.check_text.Goals as goal
 

@@ -1,0 +1,26 @@
+use Rattle.std.proofs.Common.{refl}
+use Rattle.std.proofs.lemmas.Result.{err_from_is_err_and}
+use Rattle.straight_lang.specs.View.{decl_of}
+use Rattle.straight_decls.proofs.Loop.{goes_on, fails, is_full, ended, begun}
+use Rattle.straight_decls.proofs.decl.decls.Goals as goal
+
+pub loop-init : goal.loop-init
+loop-init c = begun decl_of _ _ _ _ _ c.new.ensures
+
+pub loop-preserved : goal.loop-preserved
+loop-preserved c =
+    goes_on decl_of _ _ c.in_ok-decl.decl _ _ _ c.loop.counter _ _ _ c.loop-test.true (rw (← c.is_next.ensures, c.if-not-is_next.false) refl) c.in_ok-decl.ensures c.in_ok-push.ensures.ok c.loop.invariant
+
+pub returns-in_err-decl : goal.returns-in_err-decl
+returns-in_err-decl c =
+    let p = err_from_is_err_and c.from_residual.result c.from_residual.ensures.1 in
+    rw (p.1, p.2) (fails _ _ _ c.loop.counter _ _ _ _ c.loop-test.true (rw (← c.is_next.ensures, c.if-not-is_next.false) refl) c.in_err-decl.ensures c.loop.invariant)
+
+pub returns-then-not-is_next : goal.returns-then-not-is_next
+returns-then-not-is_next c = ended _ _ _ _ _ _ (rw (← c.is_next.ensures, c.if-not-is_next.true) refl) c.loop.invariant
+
+pub returns : goal.returns
+returns c = ended _ _ _ _ _ _ (rw (← c.is_next-2.ensures, c.if-is_next.false) refl) c.loop.invariant
+
+pub returns-then-is_next : goal.returns-then-is_next
+returns-then-is_next c = is_full _ _ _ c.loop.counter _ _ _ c.loop-test.false (rw (← c.is_next-2.ensures, c.if-is_next.true) refl) c.loop.invariant

@@ -1,0 +1,13 @@
+pub mod Syntax
+pub mod View
+pub mod Text
+pub mod Limits
+pub mod State
+pub mod Value
+pub mod Run
+pub mod Meets
+pub mod Relation
+pub mod Judgement
+pub mod Typed
+pub mod Projections
+pub mod TrueBundle

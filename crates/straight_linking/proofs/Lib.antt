@@ -1,0 +1,13 @@
+pub mod Runs
+pub mod PlainUnits
+pub mod Walks
+pub mod Ends
+pub mod Related
+pub mod TrueBundles
+pub mod Forms
+pub mod FormsLists
+pub mod FormsScope
+pub mod FormsShape
+pub mod FormsUnit
+pub mod Obligations
+pub mod FewVariables

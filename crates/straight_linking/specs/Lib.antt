@@ -1,0 +1,4 @@
+pub mod Form
+pub mod Obligation
+pub mod Parts
+pub mod Scope
