@@ -1,9 +1,11 @@
 //! Biprograms: how the commands of two programs go together.
 
+ghost use Rattle.std.specs.Prelude.{◌≡◌, IfOk};
+
 use crate::command::Command;
 use crate::formula::Formula;
 use crate::relation::RelFormula;
-use rel_list::{List, Name};
+use rel_list::{Copies, List, Memory, Name, both};
 
 /// A command of a biprogram, and the byte where it begins.
 #[cycle(bicommand)]

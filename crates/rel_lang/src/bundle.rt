@@ -1,11 +1,13 @@
 //! Bundles and the items in them.
 
+ghost use Rattle.std.specs.Prelude.{◌≡◌, IfOk};
+
 use crate::biprogram::Align;
 use crate::command::Command;
 use crate::expr::{Expr, Ty};
 use crate::formula::Formula;
 use crate::relation::RelFormula;
-use rel_list::{List, Name};
+use rel_list::{Copies, List, Memory, Name, both};
 
 /// A variable or a field with its type.
 #[derive(Drop)]
@@ -265,5 +267,104 @@ impl Body {
 impl Copies for Body {
     fn copied(&self) -> Result<Body, Memory> {
         self.copy()
+    }
+}
+
+/// Copies of the name, the parameters and the type of the result of a procedure or a method.
+fn copy_heading(name: &Name, params: &List<Decl>, ty: &Ty) -> Result<(Name, List<Decl>, Ty), Memory>
+    ensures { IfOk result (λ h. (h.0 ≡ name.now) × (h.1 ≡ params.now) × (h.2 ≡ ty.now)) }
+{
+    let ((name, params), ty) = both(both(name.copy(), params.copied()), ty.copy())?;
+    Ok((name, params, ty))
+}
+
+impl Proc {
+    pub fn copy(&self) -> Result<Proc, Memory>
+        ensures { IfOk result (λ p. p ≡ self.now) }
+    {
+        let heading = copy_heading(&self.name, &self.params, &self.result);
+        let rest = both(self.spec.copy(), self.body.copy());
+        let ((name, params, result), (spec, body)) = both(heading, rest)?;
+        Ok(Proc {
+            at: self.at,
+            name,
+            params,
+            result,
+            spec,
+            body,
+        })
+    }
+}
+
+impl Copies for Proc {
+    fn copied(&self) -> Result<Proc, Memory> {
+        self.copy()
+    }
+}
+
+impl Sig {
+    pub fn copy(&self) -> Result<Sig, Memory>
+        ensures { IfOk result (λ s. s ≡ self.now) }
+    {
+        let heading = copy_heading(&self.name, &self.params, &self.result);
+        let ((name, params, result), spec) = both(heading, self.spec.copy())?;
+        Ok(Sig {
+            at: self.at,
+            name,
+            params,
+            result,
+            spec,
+        })
+    }
+}
+
+impl Copies for Sig {
+    fn copied(&self) -> Result<Sig, Memory> {
+        self.copy()
+    }
+}
+
+impl Class {
+    pub fn copy(&self) -> Result<Class, Memory>
+        ensures { IfOk result (λ c. c ≡ self.now) }
+    {
+        let (name, fields) = both(self.name.copy(), self.fields.copied())?;
+        Ok(Class {
+            at: self.at,
+            name,
+            fields,
+        })
+    }
+}
+
+impl UnitItem {
+    pub fn copy(&self) -> Result<UnitItem, Memory>
+        ensures { IfOk result (λ u. u ≡ self.now) }
+    {
+        let members = both(self.globals.copied(), self.procs.copied());
+        let (name, (globals, procs)) = both(self.name.copy(), members)?;
+        Ok(UnitItem {
+            at: self.at,
+            name,
+            globals,
+            procs,
+        })
+    }
+}
+
+impl Client {
+    pub fn copy(&self) -> Result<Client, Memory>
+        ensures { IfOk result (λ c. c ≡ self.now) }
+    {
+        let names = both(self.name.copy(), self.interface.copy());
+        let members = both(self.globals.copied(), self.procs.copied());
+        let ((name, interface), (globals, procs)) = both(names, members)?;
+        Ok(Client {
+            at: self.at,
+            name,
+            interface,
+            globals,
+            procs,
+        })
     }
 }
