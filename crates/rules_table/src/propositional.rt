@@ -1,11 +1,11 @@
 //! The rules on connectives and quantifiers.
-ghost use Rattle.std.specs.Prelude.{◌≡◌, ◌<◌, ◌^◌, [], IfOk, IsTrue, length, map};
-ghost use Rattle.rel_logic.specs.View.{sort_of, trm_of, fml_of};
+ghost use Rattle.std.specs.Prelude.{◌≡◌, ◌<◌, ◌^◌, [], IfOk, IsTrue, MatchOption, length, map, slice_get};
+ghost use Rattle.rel_logic.specs.View.{sort_of, trm_of, fml_of, node_of};
 ghost use Rattle.rel_logic.specs.Bounds.{free_bound_term, free_bound_of};
 ghost use Rattle.rel_logic.specs.Sorting.{has_sort};
 ghost use Rattle.rules_table.specs.Equal.{same_fml};
 ghost use Rattle.rules_table.specs.Table.{is_absurd, absurd_row, and_row, nor_row, nimp_row, nn_row, or_row, nand_row, imp_row, some_row, nall_row, all_row, nsome_row};
-ghost use Rattle.rules_table.specs.Table.{holds, are_opposite, cut_formula};
+ghost use Rattle.rules_table.specs.Table.{holds, are_opposite, cut_formula, the_formula};
 ghost use Rattle.rules_table.specs.View.{step_of, outcome_of};
 
 use crate::step::Step;
@@ -282,5 +282,25 @@ fn are_opposite(f: &Fol, g: &Fol) -> bool
     match g {
         Fol::Not(h) => same_forms(f, h.get()),
         _ => false,
+    }
+}
+
+/// The node's formula with this number.
+fn formula_at(node: &Node, i: u32) -> Option<&Fol>
+    ensures { let there = slice_get (node_of node.now).forms i in
+        MatchOption result (there ≡ None) (λ f. there ≡ Some (fml_of f.now)) }
+{
+    node.forms.as_slice().get(i as usize)
+}
+
+/// The formula with the step's one number, where the step holds nothing else.
+fn the_formula<'a>(node: &'a Node, step: &Step) -> Option<&'a Fol>
+    ensures { let there = the_formula (node_of node.now) (step_of step.now) in
+        MatchOption result (there ≡ None) (λ f. there ≡ Some (fml_of f.now)) }
+{
+    if holds(step, 1, 0, 0) {
+        formula_at(node, *step.nums.at(0))
+    } else {
+        None
     }
 }
