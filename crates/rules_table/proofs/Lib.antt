@@ -1,2 +1,4 @@
 pub mod Equal
 pub mod Models
+pub mod Law
+pub mod Closed

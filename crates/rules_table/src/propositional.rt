@@ -1,11 +1,12 @@
 //! The rules on connectives and quantifiers.
-ghost use Rattle.std.specs.Prelude.{◌≡◌, ◌<◌, ◌^◌, [], IfOk, IsTrue, MatchOption, length, map, slice_get};
+ghost use Rattle.std.specs.Prelude.{◌≡◌, ◌<◌, ◌^◌, [], IfOk, IsTrue, MatchOption, if◌then◌else◌, length, map, slice_get};
 ghost use Rattle.rel_logic.specs.View.{sort_of, trm_of, fml_of, node_of};
 ghost use Rattle.rel_logic.specs.Bounds.{free_bound_term, free_bound_of};
 ghost use Rattle.rel_logic.specs.Sorting.{has_sort};
 ghost use Rattle.rules_table.specs.Equal.{same_fml};
 ghost use Rattle.rules_table.specs.Table.{is_absurd, absurd_row, and_row, nor_row, nimp_row, nn_row, or_row, nand_row, imp_row, some_row, nall_row, all_row, nsome_row};
-ghost use Rattle.rules_table.specs.Table.{holds, are_opposite, cut_formula, the_formula};
+ghost use Rattle.rules_table.specs.Table.{holds, formula, formula_row, are_opposite, cut_formula};
+ghost use Rattle.rules_table.specs.Nodes.{IsSound};
 ghost use Rattle.rules_table.specs.View.{step_of, outcome_of};
 
 use crate::step::Step;
@@ -293,14 +294,46 @@ fn formula_at(node: &Node, i: u32) -> Option<&Fol>
     node.forms.as_slice().get(i as usize)
 }
 
-/// The formula with the step's one number, where the step holds nothing else.
-fn the_formula<'a>(node: &'a Node, step: &Step) -> Option<&'a Fol>
-    ensures { let there = the_formula (node_of node.now) (step_of step.now) in
-        MatchOption result (there ≡ None) (λ f. there ≡ Some (fml_of f.now)) }
+/// The node's formulas are closed.
+fn sound_formula(node: &Node, i: u32) -> Option<&Fol>
+    requires { IsSound (node_of node.now) }
+    ensures { let there = slice_get (node_of node.now).forms i in
+        MatchOption result (there ≡ None) (λ f. (there ≡ Some (fml_of f.now)) × (free_bound_of (fml_of f.now) ≡ 0)) }
 {
-    if holds(step, 1, 0, 0) {
-        formula_at(node, *step.nums.at(0))
+    formula_at(node, i)
+}
+
+/// The formula with the step's first number, where the step holds so many terms and nothing else.
+fn the_formula<'a>(node: &'a Node, step: &Step, terms: usize) -> Option<&'a Fol>
+    requires { IsSound (node_of node.now) }
+    ensures { let s = step_of step.now in
+        let there = if holds 1 terms 0 s then formula (node_of node.now) s 0 else None in
+        MatchOption result (there ≡ None) (λ f. (there ≡ Some (fml_of f.now)) × (free_bound_of (fml_of f.now) ≡ 0)) }
+{
+    if holds(step, 1, terms, 0) {
+        sound_formula(node, *step.nums.at(0))
     } else {
         None
+    }
+}
+
+/// The rows on one formula.
+fn formula_row(alloc: Global, node: &Node, row: u8, f: &Fol) -> Result<Answer, Memory>
+    requires room { length node.now.sorts < 2 ^ 31 }
+    requires closed { free_bound_of (fml_of f.now) ≡ 0 }
+    ensures { IfOk result (λ a. outcome_of a ≡ formula_row (length node.now.sorts) row (fml_of f.now)) }
+{
+    match row {
+        2 => absurd(alloc, f),
+        3 => conjunction(alloc, f),
+        4 => denied_disjunction(alloc, f),
+        5 => denied_implication(alloc, f),
+        6 => double_negation(alloc, f),
+        7 => disjunction(alloc, f),
+        8 => denied_conjunction(alloc, f),
+        9 => implication(alloc, f),
+        13 => existence(alloc, node, f),
+        14 => denied_universal(alloc, node, f),
+        _ => Ok(Answer::NotMine),
     }
 }
