@@ -92,21 +92,6 @@ abbrev pub nall_row : ℕ → Fml → Outcome
 nall_row fresh (no (every s f)) = fresh_child s (no (instantiated (var fresh) f))
 nall_row fresh _ = bad
 
--- the rows on one formula, by their numbers
-abbrev pub formula_row : ℕ → ℕ → Fml → Outcome
-formula_row fresh row f =
-    if row == 2 then absurd_row f else
-    if row == 3 then and_row f else
-    if row == 4 then nor_row f else
-    if row == 5 then nimp_row f else
-    if row == 6 then nn_row f else
-    if row == 7 then or_row f else
-    if row == 8 then nand_row f else
-    if row == 9 then imp_row f else
-    if row == 13 then some_row fresh f else
-    if row == 14 then nall_row fresh f else
-    not_mine
-
 -- ---- the rows on a formula and a term, which has the quantifier's sort
 
 -- 11: all F, at a term
