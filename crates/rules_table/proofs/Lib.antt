@@ -1,4 +1,1 @@
-pub mod Equal
-pub mod Models
-pub mod Law
 pub mod Closed

@@ -7,10 +7,11 @@ ghost use Rattle.rules_table.specs.Equal.{same_fml};
 ghost use Rattle.rules_table.specs.Table.{is_absurd, absurd_row, and_row, nor_row, nimp_row, nn_row, or_row, nand_row, imp_row, some_row, nall_row, all_row, nsome_row};
 ghost use Rattle.rules_table.specs.Table.{holds, formula, given_formula, are_opposite, close_row, cut_formula, propositional};
 ghost use Rattle.rules_table.specs.Nodes.{IsSound};
+ghost use Rattle.rules_table.specs.Law.{loses_no_model};
 ghost use Rattle.rules_table.specs.View.{step_of, outcome_of};
 
 use crate::step::Step;
-use crate::theory::{Added, Answer, closing, one_child, two_children};
+use crate::theory::{Added, Answer, Theory, closing, one_child, two_children};
 use rel_list::Memory;
 use rel_logic::comparison::same;
 use rel_logic::fol::Fol;
@@ -270,7 +271,7 @@ fn holds(step: &Step, nums: usize, terms: usize, forms: usize) -> bool
         && step.class.is_none()
 }
 
-#[tactic(auto, using(crate::proofs::Equal::answers_alike, crate::proofs::Equal::same_fml_is))]
+#[tactic(auto, using(crate::specs::SameTrees::answers_alike, crate::specs::SameTrees::same_fml_is))]
 fn same_forms(f: &Fol, g: &Fol) -> bool
     ensures { result ≡ same_fml (fml_of f.now) (fml_of g.now) }
 {
@@ -390,7 +391,7 @@ macro_rules! at {
 }
 
 /// What the step comes to by rows 1 to 14.
-fn propositional(alloc: Global, node: &Node, step: &Step) -> Result<Answer, Memory>
+fn apply_row(alloc: Global, node: &Node, step: &Step) -> Result<Answer, Memory>
     requires sound { IsSound (node_of node.now) }
     requires room { length node.now.sorts < 2 ^ 31 }
     ensures { IfOk result (λ a. outcome_of a ≡ propositional (node_of node.now) (step_of step.now)) }
@@ -410,5 +411,20 @@ fn propositional(alloc: Global, node: &Node, step: &Step) -> Result<Answer, Memo
         12 => at!(the_formula(node, step, 1), f => at!(first_term(step), t => denied_existence(alloc, node, t, f))),
         13 => at!(the_formula(node, step, 0), f => existence(alloc, node, f)),
         14 => at!(the_formula(node, step, 0), f => denied_universal(alloc, node, f)),
+    }
+}
+
+/// Rows 1 to 14: the rules on connectives and quantifiers.
+#[derive(Clone, Copy, Drop)]
+pub struct Propositional;
+
+impl Theory for Propositional {
+    ghost outcome = { propositional };
+
+    ghost keeps = { loses_no_model };
+
+    #[tactic(auto, using(crate::proofs::Closed::has_room))]
+    fn apply(&self, alloc: Global, node: &Node, step: &Step) -> Result<Answer, Memory> {
+        apply_row(alloc, node, step)
     }
 }

@@ -8,8 +8,8 @@ use Rattle.rel_logic.specs.Truth.{Valuation, IsTrueAt}
 use Rattle.rel_logic.specs.Sorting.{is_well_sorted}
 use Rattle.rules_table.specs.Nodes.{Stp, Addition, Outcome, not_mine, bad, kids, IsSound, IsModel, HasNoModel, LosesNoModel}
 use Rattle.rules_table.specs.Table.{holds, formula, the_formula, formula_by_term, given_formula, on_formula, on_term, two_children, are_opposite, close_row, cut_formula, absurd_row, and_row, nor_row, nimp_row, nn_row, or_row, nand_row, imp_row, some_row, nall_row, all_row, nsome_row, propositional}
-use Rattle.rules_table.proofs.Equal.{same_fml_is}
-use Rattle.rules_table.proofs.Models.{KeepsModels, holds_at, absurd_keeps, and_keeps, nor_keeps, nimp_keeps, nn_keeps, or_keeps, nand_keeps, imp_keeps, cut_keeps, some_keeps, nall_keeps, all_keeps, nsome_keeps}
+use Rattle.rules_table.specs.SameTrees.{same_fml_is}
+use Rattle.rules_table.specs.Models.{KeepsModels, holds_at, absurd_keeps, and_keeps, nor_keeps, nimp_keeps, nn_keeps, or_keeps, nand_keeps, imp_keeps, cut_keeps, some_keeps, nall_keeps, all_keeps, nsome_keeps}
 
 module _ (n : Nod) (sound : IsSound n) (r : Valuation) (m : IsModel n r) where
   by_test : (b : Bool) (x y : Outcome) → KeepsModels x n r → KeepsModels y n r → KeepsModels (if b then x else y) n r
