@@ -1,5 +1,5 @@
 -- The formulas of a node are closed.
-use Rattle.std.proofs.Common.{◌≡◌, ℕ, ◌<◌, ◌^◌, length, map, true, Option, Some, None, slice_get, MatchOption, subst}
+use Rattle.std.proofs.Common.{◌≡◌, ℕ, ◌<◌, ◌^◌, length, true, Option, Some, None, slice_get, MatchOption, subst}
 use Rattle.std.proofs.lemmas.Option.{slice_get_within, get_or_from_slice_get}
 use Rattle.rel_logic.specs.Syntax.{Fml, Nod}
 use Rattle.rel_logic.specs.Bounds.{free_bound_of}
@@ -7,7 +7,7 @@ use Rattle.rel_logic.specs.Sorting.{is_well_sorted}
 use Rattle.rel_logic.proofs.Sorts.{well_sorted_closed}
 use Rattle.std.proofs.lemmas.List.{length-map}
 use Rattle.rel_logic.specs.declared.sequent.Node.{Node}
-use Rattle.rel_logic.specs.View.{sort_of, node_of}
+use Rattle.rel_logic.specs.View.{node_of}
 use Rattle.rules_table.specs.Nodes.{IsSound}
 
 pub has_room : (n : Node) → IsSound (node_of n) → length n.sorts < 2 ^ 31

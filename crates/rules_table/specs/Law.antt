@@ -1,12 +1,11 @@
 -- No step of the table loses a model.
-use Rattle.std.proofs.Common.{◌≡◌, ℕ, ◌==◌, Bool, true, false, ◌&&◌, if◌then◌else◌, IsTrue, List, [], ◌∷◌, length, get_or, slice_get, Option, Some, None, refl, sym, ap, subst, ◌∙◌}
-use Rattle.std.specs.List.{AllByRecursion}
+use Rattle.std.proofs.Common.{◌≡◌, ℕ, ◌==◌, Bool, true, false, ◌&&◌, if◌then◌else◌, List, [], ◌∷◌, length, get_or, slice_get, Option, Some, None, refl, subst}
 use Rattle.std.proofs.lemmas.Option.{slice_get_within, get_or_from_slice_get}
 use Rattle.rel_list.proofs.Sets.{and_both}
-use Rattle.rel_logic.specs.Syntax.{Srt, Trm, Fml, no, Nod}
+use Rattle.rel_logic.specs.Syntax.{Trm, Fml, no, Nod}
 use Rattle.rel_logic.specs.Truth.{Valuation, IsTrueAt}
 use Rattle.rel_logic.specs.Sorting.{is_well_sorted}
-use Rattle.rules_table.specs.Nodes.{Stp, Addition, Outcome, not_mine, bad, kids, IsSound, IsModel, HasNoModel, LosesNoModel}
+use Rattle.rules_table.specs.Nodes.{Stp, Addition, Outcome, bad, kids, IsSound, IsModel, LosesNoModel}
 use Rattle.rules_table.specs.Table.{holds, formula, the_formula, formula_by_term, given_formula, on_formula, on_term, two_children, are_opposite, close_row, cut_formula, absurd_row, and_row, nor_row, nimp_row, nn_row, or_row, nand_row, imp_row, some_row, nall_row, all_row, nsome_row, propositional}
 use Rattle.rules_table.specs.SameTrees.{same_fml_is}
 use Rattle.rules_table.specs.Models.{KeepsModels, holds_at, absurd_keeps, and_keeps, nor_keeps, nimp_keeps, nn_keeps, or_keeps, nand_keeps, imp_keeps, cut_keeps, some_keeps, nall_keeps, all_keeps, nsome_keeps}

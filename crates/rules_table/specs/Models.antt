@@ -1,7 +1,7 @@
 -- The rules on connectives and quantifiers lose no model.
-use Rattle.std.proofs.Common.{◌≡◌, ◌↔◌, ◌⊎◌, inl, inr, ⊎_elim, ℕ, zero, suc, ◌+◌, ◌<◌, ◌==◌, Bool, true, false, ◌&&◌, if◌then◌else◌, IsTrue, Decides, List, [], ◌∷◌, ◌++◌, length, get_or, slice_get, All, Option, Some, None, refl, sym, ap, subst, ◌∙◌, arith}
+use Rattle.std.proofs.Common.{◌≡◌, ◌↔◌, ◌⊎◌, inl, inr, ⊎_elim, ℕ, zero, suc, ◌==◌, Bool, true, false, if◌then◌else◌, Decides, List, [], ◌∷◌, ◌++◌, length, get_or, slice_get, All, Some, refl, sym, ap, subst, arith}
 use Rattle.std.specs.List.{AllByRecursion}
-use Rattle.std.proofs.lemmas.List.Elements.{All-nil, All-cons, All-push}
+use Rattle.std.proofs.lemmas.List.Elements.{All-push}
 use Rattle.std.proofs.lemmas.Option.{slice_get_within, get_or_from_slice_get}
 use Rattle.rel_logic.specs.Syntax.{Srt, Trm, var, Fml, verum, falsum, no, and, or, imp, every, some, Nod}
 use Rattle.rel_logic.specs.Truth.{Carrier, elem, HasSort, Valuation, changed, AgreeOn, FitsSorts, IsTrueAt}
@@ -11,8 +11,8 @@ use Rattle.rel_logic.proofs.Stable.{stable}
 use Rattle.rel_logic.proofs.Values.{instantiated_true}
 use Rattle.rel_logic.proofs.Sorts.{is_of_some, same_truth, truth_depends, sorted_term_closed, sorted_value}
 use Rattle.std.proofs.lemmas.Bool.Decides.{Decides-eqb}
-use Rattle.rules_table.specs.Nodes.{Addition, Outcome, bad, kids, IsSound, child, IsModel, HasNoModel, LosesNoModel}
-use Rattle.rules_table.specs.Table.{adds, one_child, two_children, is_absurd, absurd_row, and_row, nor_row, nimp_row, nn_row, or_row, nand_row, imp_row, some_row, nall_row, all_row, nsome_row}
+use Rattle.rules_table.specs.Nodes.{Outcome, bad, kids, IsSound, IsModel, HasNoModel}
+use Rattle.rules_table.specs.Table.{adds, one_child, two_children, absurd_row, and_row, nor_row, nimp_row, nn_row, or_row, nand_row, imp_row, some_row, nall_row, all_row, nsome_row}
 
 append_empty : {A : Type 0} (xs : List A) → xs ++ [] ≡ xs
 append_empty [] = refl

@@ -1,5 +1,5 @@
 -- The rules on connectives and quantifiers, rows 1 to 14 of the table.
-use Rattle.std.specs.Prelude.{◌≡◌, ℕ, ◌==◌, Bool, true, false, ◌&&◌, if◌then◌else◌, List, [], ◌∷◌, length, get_or, slice_get, Option, Some, None}
+use Rattle.std.specs.Prelude.{ℕ, ◌==◌, Bool, true, false, ◌&&◌, if◌then◌else◌, List, [], ◌∷◌, length, get_or, slice_get, Option, Some, None}
 use Rattle.rel_logic.specs.Syntax.{Srt, Trm, var, Fml, verum, falsum, no, and, or, imp, every, some, Nod}
 use Rattle.rel_logic.specs.Substitution.{instantiated}
 use Rattle.rel_logic.specs.Sorting.{has_sort, is_well_sorted}
