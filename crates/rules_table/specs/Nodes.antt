@@ -1,5 +1,5 @@
 -- Steps at a node, its children, and when a step loses no model.
-use Rattle.std.specs.Prelude.{◌≡◌, ℕ, ◌<◌, ◌^◌, ℤ, IsTrue, List, [], ◌∷◌, ◌++◌, length, All, Option}
+use Rattle.std.specs.Prelude.{ℕ, ◌<◌, ◌^◌, ℤ, IsTrue, List, [], ◌∷◌, ◌++◌, length, All, Option}
 use Rattle.std.specs.List.{AllByRecursion}
 use Rattle.rel_logic.specs.Syntax.{Srt, Trm, Fml, Nod}
 use Rattle.rel_logic.specs.Truth.{Valuation, FitsSorts, AgreeOn, IsTrueAt}

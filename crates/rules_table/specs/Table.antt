@@ -1,5 +1,5 @@
 -- The rules on connectives and quantifiers, rows 1 to 14 of the table.
-use Rattle.std.specs.Prelude.{◌≡◌, ℕ, ◌==◌, Bool, true, false, ◌&&◌, if◌then◌else◌, List, [], ◌∷◌, length, get_or, slice_get, Option, Some, None}
+use Rattle.std.specs.Prelude.{ℕ, ◌==◌, Bool, true, false, ◌&&◌, if◌then◌else◌, List, [], ◌∷◌, length, get_or, slice_get, Option, Some, None}
 use Rattle.rel_logic.specs.Syntax.{Srt, Trm, var, Fml, verum, falsum, no, and, or, imp, every, some, Nod}
 use Rattle.rel_logic.specs.Substitution.{instantiated}
 use Rattle.rel_logic.specs.Sorting.{has_sort, is_well_sorted}
@@ -128,30 +128,32 @@ abbrev pub on_term : (Trm → Fml → Outcome) → Option Trm → Option Fml →
 on_term rule (Some t) (Some f) = rule t f
 on_term rule _ _ = bad
 
--- the step's one formula number, or that and its one term, or its one formula
-abbrev pub one_formula : Nod → Stp → (Fml → Outcome) → Outcome
-one_formula n s rule = if holds 1 0 0 s then on_formula rule (formula n s 0) else bad
+-- the formula with the step's one number, where the step holds nothing else
+abbrev pub the_formula : Nod → Stp → Option Fml
+the_formula n s = if holds 1 0 0 s then formula n s 0 else None
 
-abbrev pub formula_and_term : Nod → Stp → (Trm → Fml → Outcome) → Outcome
-formula_and_term n s rule = if holds 1 1 0 s then on_term rule (slice_get s.terms 0) (formula n s 0) else bad
+-- the same beside one term
+abbrev pub formula_by_term : Nod → Stp → Option Fml
+formula_by_term n s = if holds 1 1 0 s then formula n s 0 else None
 
-abbrev pub given_formula : Stp → (Fml → Outcome) → Outcome
-given_formula s rule = if holds 0 0 1 s then on_formula rule (slice_get s.forms 0) else bad
+-- the step's one formula
+abbrev pub given_formula : Stp → Option Fml
+given_formula s = if holds 0 0 1 s then slice_get s.forms 0 else None
 
 abbrev pub propositional : Nod → Stp → Outcome
 propositional n s =
     if s.row == 1 then close_row n s else
-    if s.row == 2 then one_formula n s absurd_row else
-    if s.row == 3 then one_formula n s and_row else
-    if s.row == 4 then one_formula n s nor_row else
-    if s.row == 5 then one_formula n s nimp_row else
-    if s.row == 6 then one_formula n s nn_row else
-    if s.row == 7 then one_formula n s or_row else
-    if s.row == 8 then one_formula n s nand_row else
-    if s.row == 9 then one_formula n s imp_row else
-    if s.row == 10 then given_formula s (cut_formula n.sorts) else
-    if s.row == 11 then formula_and_term n s (all_row n.sorts) else
-    if s.row == 12 then formula_and_term n s (nsome_row n.sorts) else
-    if s.row == 13 then one_formula n s (some_row (length n.sorts)) else
-    if s.row == 14 then one_formula n s (nall_row (length n.sorts)) else
+    if s.row == 2 then on_formula absurd_row (the_formula n s) else
+    if s.row == 3 then on_formula and_row (the_formula n s) else
+    if s.row == 4 then on_formula nor_row (the_formula n s) else
+    if s.row == 5 then on_formula nimp_row (the_formula n s) else
+    if s.row == 6 then on_formula nn_row (the_formula n s) else
+    if s.row == 7 then on_formula or_row (the_formula n s) else
+    if s.row == 8 then on_formula nand_row (the_formula n s) else
+    if s.row == 9 then on_formula imp_row (the_formula n s) else
+    if s.row == 10 then on_formula (cut_formula n.sorts) (given_formula s) else
+    if s.row == 11 then on_term (all_row n.sorts) (slice_get s.terms 0) (formula_by_term n s) else
+    if s.row == 12 then on_term (nsome_row n.sorts) (slice_get s.terms 0) (formula_by_term n s) else
+    if s.row == 13 then on_formula (some_row (length n.sorts)) (the_formula n s) else
+    if s.row == 14 then on_formula (nall_row (length n.sorts)) (the_formula n s) else
     not_mine

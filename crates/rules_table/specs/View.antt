@@ -1,6 +1,5 @@
 -- The steps, additions and outcomes that the code's values stand for.
-use Rattle.std.specs.Prelude.{List, map, Option, Some, None}
-use Rattle.rel_logic.specs.Syntax.{Fml}
+use Rattle.std.specs.Prelude.{map}
 use Rattle.rel_logic.specs.View.{sort_of, trm_of, fml_of}
 use Rattle.rules_table.specs.declared.step.Step.{Step}
 use Rattle.rules_table.specs.declared.theory.Added.{Added}

@@ -1,15 +1,17 @@
 //! The rules on connectives and quantifiers.
-ghost use Rattle.std.specs.Prelude.{◌≡◌, ◌<◌, ◌^◌, [], IfOk, IsTrue, length, map};
-ghost use Rattle.rel_logic.specs.View.{sort_of, trm_of, fml_of};
+ghost use Rattle.std.specs.Prelude.{◌≡◌, ◌&&◌, ◌<◌, ◌^◌, [], IfOk, IsTrue, MatchOption, if◌then◌else◌, length, map, slice_get};
+ghost use Rattle.rel_logic.specs.View.{sort_of, trm_of, fml_of, node_of};
 ghost use Rattle.rel_logic.specs.Bounds.{free_bound_term, free_bound_of};
 ghost use Rattle.rel_logic.specs.Sorting.{has_sort};
 ghost use Rattle.rules_table.specs.Equal.{same_fml};
 ghost use Rattle.rules_table.specs.Table.{is_absurd, absurd_row, and_row, nor_row, nimp_row, nn_row, or_row, nand_row, imp_row, some_row, nall_row, all_row, nsome_row};
-ghost use Rattle.rules_table.specs.Table.{holds, are_opposite, cut_formula};
+ghost use Rattle.rules_table.specs.Table.{holds, formula, given_formula, are_opposite, close_row, cut_formula, propositional};
+ghost use Rattle.rules_table.specs.Nodes.{IsSound};
+ghost use Rattle.rules_table.specs.Law.{loses_no_model};
 ghost use Rattle.rules_table.specs.View.{step_of, outcome_of};
 
 use crate::step::Step;
-use crate::theory::{Added, Answer, closing, one_child, two_children};
+use crate::theory::{Added, Answer, Theory, closing, one_child, two_children};
 use rel_list::Memory;
 use rel_logic::comparison::same;
 use rel_logic::fol::Fol;
@@ -269,7 +271,7 @@ fn holds(step: &Step, nums: usize, terms: usize, forms: usize) -> bool
         && step.class.is_none()
 }
 
-#[tactic(auto, using(crate::proofs::Equal::answers_alike, crate::proofs::Equal::same_fml_is))]
+#[tactic(auto, using(crate::specs::SameTrees::answers_alike, crate::specs::SameTrees::same_fml_is))]
 fn same_forms(f: &Fol, g: &Fol) -> bool
     ensures { result ≡ same_fml (fml_of f.now) (fml_of g.now) }
 {
@@ -282,5 +284,147 @@ fn are_opposite(f: &Fol, g: &Fol) -> bool
     match g {
         Fol::Not(h) => same_forms(f, h.get()),
         _ => false,
+    }
+}
+
+/// The node's formula with this number.
+fn formula_at(node: &Node, i: u32) -> Option<&Fol>
+    ensures { let there = slice_get (node_of node.now).forms i in
+        MatchOption result (there ≡ None) (λ f. there ≡ Some (fml_of f.now)) }
+{
+    node.forms.as_slice().get(i as usize)
+}
+
+/// The node's formulas are closed.
+fn sound_formula(node: &Node, i: u32) -> Option<&Fol>
+    requires { IsSound (node_of node.now) }
+    ensures { let there = slice_get (node_of node.now).forms i in
+        MatchOption result (there ≡ None) (λ f. (there ≡ Some (fml_of f.now)) × (free_bound_of (fml_of f.now) ≡ 0)) }
+{
+    formula_at(node, i)
+}
+
+/// The formula with the step's first number, where the step holds so many terms and nothing else.
+fn the_formula<'a>(node: &'a Node, step: &Step, terms: usize) -> Option<&'a Fol>
+    requires { IsSound (node_of node.now) }
+    ensures { let s = step_of step.now in
+        let there = if holds 1 terms 0 s then formula (node_of node.now) s 0 else None in
+        MatchOption result (there ≡ None) (λ f. (there ≡ Some (fml_of f.now)) × (free_bound_of (fml_of f.now) ≡ 0)) }
+{
+    if holds(step, 1, terms, 0) {
+        sound_formula(node, *step.nums.at(0))
+    } else {
+        None
+    }
+}
+
+/// Whether one of the two formulas that the step names is the negation of the other.
+fn closes_by_opposites(node: &Node, step: &Step) -> bool
+    ensures { let n = node_of node.now in
+        let s = step_of step.now in
+        result ≡ holds 2 0 0 s && are_opposite (formula n s 0) (formula n s 1) }
+{
+    if !holds(step, 2, 0, 0) {
+        return false;
+    }
+    let Some(f) = formula_at(node, *step.nums.at(0)) else {
+        return false;
+    };
+    let Some(g) = formula_at(node, *step.nums.at(1)) else {
+        return false;
+    };
+    are_opposite(f, g)
+}
+
+fn close(alloc: Global, node: &Node, step: &Step) -> Answer
+    ensures { outcome_of result ≡ close_row (node_of node.now) (step_of step.now) }
+{
+    if closes_by_opposites(node, step) {
+        closing(alloc, 1)
+    } else {
+        Answer::Bad
+    }
+}
+
+fn first_term(step: &Step) -> Option<&Term>
+    ensures { let there = slice_get (step_of step.now).terms 0 in
+        MatchOption result (there ≡ None) (λ t. there ≡ Some (trm_of t.now)) }
+{
+    step.terms.as_slice().get(0)
+}
+
+fn first_form(step: &Step) -> Option<&Fol>
+    ensures { let there = slice_get (step_of step.now).forms 0 in
+        MatchOption result (there ≡ None) (λ f. there ≡ Some (fml_of f.now)) }
+{
+    step.forms.as_slice().get(0)
+}
+
+/// The step's one formula.
+fn given_formula(step: &Step) -> Option<&Fol>
+    ensures { let there = given_formula (step_of step.now) in
+        MatchOption result (there ≡ None) (λ f. there ≡ Some (fml_of f.now)) }
+{
+    if holds(step, 0, 0, 1) {
+        first_form(step)
+    } else {
+        None
+    }
+}
+
+macro_rules! rows {
+    ($row:expr; $($number:literal => $answer:expr),+ $(,)?) => {
+        match $row {
+            $($number => $answer,)+
+            _ => Ok(Answer::NotMine),
+        }
+    };
+}
+
+macro_rules! at {
+    ($found:expr, $f:ident => $answer:expr) => {
+        match $found {
+            Some($f) => $answer,
+            None => Ok(Answer::Bad),
+        }
+    };
+}
+
+/// What the step comes to by rows 1 to 14.
+fn apply_row(alloc: Global, node: &Node, step: &Step) -> Result<Answer, Memory>
+    requires sound { IsSound (node_of node.now) }
+    requires room { length node.now.sorts < 2 ^ 31 }
+    ensures { IfOk result (λ a. outcome_of a ≡ propositional (node_of node.now) (step_of step.now)) }
+{
+    rows! { step.row;
+        1 => Ok(close(alloc, node, step)),
+        2 => at!(the_formula(node, step, 0), f => absurd(alloc, f)),
+        3 => at!(the_formula(node, step, 0), f => conjunction(alloc, f)),
+        4 => at!(the_formula(node, step, 0), f => denied_disjunction(alloc, f)),
+        5 => at!(the_formula(node, step, 0), f => denied_implication(alloc, f)),
+        6 => at!(the_formula(node, step, 0), f => double_negation(alloc, f)),
+        7 => at!(the_formula(node, step, 0), f => disjunction(alloc, f)),
+        8 => at!(the_formula(node, step, 0), f => denied_conjunction(alloc, f)),
+        9 => at!(the_formula(node, step, 0), f => implication(alloc, f)),
+        10 => at!(given_formula(step), f => cut(alloc, node, f)),
+        11 => at!(the_formula(node, step, 1), f => at!(first_term(step), t => universal(alloc, node, t, f))),
+        12 => at!(the_formula(node, step, 1), f => at!(first_term(step), t => denied_existence(alloc, node, t, f))),
+        13 => at!(the_formula(node, step, 0), f => existence(alloc, node, f)),
+        14 => at!(the_formula(node, step, 0), f => denied_universal(alloc, node, f)),
+    }
+}
+
+/// Rows 1 to 14: the rules on connectives and quantifiers.
+#[derive(Clone, Copy, Drop)]
+pub struct Propositional;
+
+impl Theory for Propositional {
+    ghost outcome = { propositional };
+
+    ghost keeps = { loses_no_model };
+
+    #[tactic(auto, using(crate::proofs::Closed::has_room))]
+    fn apply(&self, alloc: Global, node: &Node, step: &Step) -> Result<Answer, Memory> {
+        apply_row(alloc, node, step)
     }
 }
