@@ -253,10 +253,17 @@ mod tests {
         Ok(steps)
     }
 
+    fn verdict_on(alloc: Global, steps: &List<Step>) -> Result<Verdict, Memory>
+        requires { length steps.now < 5 }
+    {
+        let sequent = example(alloc)?;
+        accepts(alloc, &sequent, steps)
+    }
+
     fn verdict_after(alloc: Global, count: usize) -> Result<Verdict, Memory> {
         let steps = derivation(alloc, count)?;
         if steps.len() < 5 {
-            accepts(alloc, &example(alloc)?, &steps)
+            verdict_on(alloc, &steps)
         } else {
             Err(Memory)
         }
