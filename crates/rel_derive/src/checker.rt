@@ -253,11 +253,16 @@ mod tests {
         Ok(steps)
     }
 
+    /// Boxed, since a function that drops a sequent of its own is too large for the check.
+    fn boxed_example(alloc: Global) -> Result<Boxed<Sequent>, Memory> {
+        Boxed::new(alloc, example(alloc)?)
+    }
+
     fn verdict_on(alloc: Global, steps: &List<Step>) -> Result<Verdict, Memory>
         requires { length steps.now < 5 }
     {
-        let sequent = example(alloc)?;
-        accepts(alloc, &sequent, steps)
+        let sequent = boxed_example(alloc)?;
+        accepts(alloc, sequent.get(), steps)
     }
 
     fn verdict_after(alloc: Global, count: usize) -> Result<Verdict, Memory> {

@@ -21,7 +21,7 @@ use rel_io::{FileFault, Files};
 use straight_lang::bundle::Bundle;
 use straight_linking::form::{Parts, parts_of};
 use straight_linking::obligation::obligation;
-use rel_list::{List, Memory, Name};
+use rel_list::{Boxed, List, Memory, Name};
 use rel_logic::sequent::Sequent;
 use std::alloc::Global;
 
@@ -146,6 +146,15 @@ fn check_bundle<F: Files>(
     }
 }
 
+/// Boxed, since a function that drops a sequent of its own is too large for the check.
+#[tactic(auto, using(crate::proofs::Verdicts::is_obligation))]
+fn boxed_obligation(alloc: Global, parts: &Parts<'_>) -> Result<Boxed<Sequent>, Memory>
+    requires { HasFew parts.now }
+    ensures { IfOk result (λ q. IsObligation q (parts_view parts.now)) }
+{
+    Boxed::new(alloc, obligation(alloc, parts)?)
+}
+
 fn check_parts<F: Files>(
     alloc: Global,
     parts: &Parts<'_>,
@@ -160,8 +169,8 @@ fn check_parts<F: Files>(
     ensures contents_stay { F.told files.new ≡ F.told files.old }
     ensures quiet { IfOk result (λ a. a.status ≢ Status.FileFault → F.faults files.new ≡ F.faults files.old) }
 {
-    let sequent = obligation(alloc, parts)?;
-    Ok(check_sequent(alloc, parts, &sequent, proof, files)?)
+    let sequent = boxed_obligation(alloc, parts)?;
+    Ok(check_sequent(alloc, parts, sequent.get(), proof, files)?)
 }
 
 fn check_sequent<F: Files>(
