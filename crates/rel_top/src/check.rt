@@ -14,16 +14,16 @@ ghost use Rattle.rel_top.specs.Verdict as V;
 use crate::proof_file::{ProofFault, read_proof};
 use crate::report;
 use crate::status::Status;
-use straight_decls::{TextFault, parse_bundle};
 use rel_derive::checker::{Verdict, accepts};
 use rel_derive::step::Step;
 use rel_io::{FileFault, Files};
-use straight_lang::bundle::Bundle;
-use straight_linking::form::{Parts, parts_of};
-use straight_linking::obligation::obligation;
 use rel_list::{Boxed, List, Memory, Name};
 use rel_logic::sequent::Sequent;
 use std::alloc::Global;
+use straight_decls::{TextFault, parse_bundle};
+use straight_lang::bundle::Bundle;
+use straight_linking::form::{Parts, parts_of};
+use straight_linking::obligation::obligation;
 
 const BUNDLE_LIMIT: u64 = 1 << 22;
 
@@ -147,12 +147,13 @@ fn check_bundle<F: Files>(
 }
 
 /// Boxed, since a function that drops a sequent of its own is too large for the check.
-#[tactic(auto, using(crate::proofs::Verdicts::is_obligation))]
 fn boxed_obligation(alloc: Global, parts: &Parts<'_>) -> Result<Boxed<Sequent>, Memory>
     requires { HasFew parts.now }
     ensures { IfOk result (λ q. IsObligation q (parts_view parts.now)) }
 {
-    Boxed::new(alloc, obligation(alloc, parts)?)
+    let sequent = obligation(alloc, parts)?;
+    let boxed = Boxed::new(alloc, sequent)?;
+    Ok(boxed)
 }
 
 fn check_parts<F: Files>(

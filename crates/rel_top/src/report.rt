@@ -4,9 +4,9 @@ ghost use Rattle.std.specs.Prelude.{◌≡◌, IfOk};
 ghost use Rattle.straight_lang.specs.View.{judgement_of};
 ghost use Rattle.rel_top.specs.Report.{usage_line, fault_line, bundle_line, proof_line, bad_step_line, open_nodes_line, unit_line, judge_line, yes_line};
 
-use straight_lang::bundle::Judgement;
 use rel_list::{Memory, Name};
 use std::alloc::Global;
+use straight_lang::bundle::Judgement;
 
 const USAGE: &str = "usage: whyrel check BUNDLE PROOF | prove BUNDLE OUT BUDGET | \
     obligations BUNDLE | show BUNDLE | big N BUDGET\n";

@@ -1,0 +1,10 @@
+pub mod Declarations
+pub mod Specifications
+pub mod Effects
+pub mod Writes
+pub mod Procedures
+pub mod Alignments
+pub mod Ends
+pub mod Items
+pub mod Places
+pub mod Standing
