@@ -8,10 +8,10 @@ use crate::command::block;
 use crate::expr::SPLIT_DEPTH;
 use crate::fault::TextFault;
 use crate::token::{MOST, expect, is_next, place};
-use straight_lang::biprogram::{Align, BiCommand, BiForm};
 use rel_lexer::Token;
 use rel_list::List;
 use std::alloc::Global;
+use straight_lang::biprogram::{Align, BiCommand, BiForm};
 
 #[tactic(auto, unfolding(crate::specs::Reading::bicommand_at))]
 fn bicommand<'a>(

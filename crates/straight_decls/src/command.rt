@@ -7,10 +7,10 @@ ghost use Rattle.straight_decls.specs.Reading.{Gives, command_at, commands_at, b
 use crate::expr::expr_of;
 use crate::fault::TextFault;
 use crate::token::{MOST, expect, is_next, name_of, place};
-use straight_lang::command::{Command, Form};
 use rel_lexer::Token;
 use rel_list::List;
 use std::alloc::Global;
+use straight_lang::command::{Command, Form};
 
 /// A command whose expressions are at most so deep.
 #[tactic(auto, unfolding(crate::specs::Reading::command_at))]

@@ -7,11 +7,11 @@ ghost use Rattle.straight_decls.specs.Reading.{decl_at, decls_at, params_at, eff
 
 use crate::fault::TextFault;
 use crate::token::{MOST, expect, is_next, name_of};
-use straight_lang::bundle::{Decl, Effect};
-use straight_lang::expr::Ty;
 use rel_lexer::Token;
 use rel_list::List;
 use std::alloc::Global;
+use straight_lang::bundle::{Decl, Effect};
+use straight_lang::expr::Ty;
 
 #[tactic(auto, unfolding(crate::specs::Reading::decl_at))]
 fn decl<'a>(alloc: Global, tokens: &'a [Token<'a>]) -> Result<(Decl, &'a [Token<'a>]), TextFault>

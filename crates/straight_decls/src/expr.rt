@@ -8,10 +8,10 @@ ghost use Rattle.straight_decls.specs.declared.fault.TextFault.TheVariants as fa
 
 use crate::fault::TextFault;
 use crate::token::{expect, first};
-use straight_lang::expr::Expr;
 use rel_lexer::{Kind, Token};
 use rel_list::{Boxed, Name};
 use std::alloc::Global;
+use straight_lang::expr::Expr;
 
 /// How deep an expression may be: in a formula, in a body and in a split, where one less is left for each
 /// tree that holds it, of 64.

@@ -8,11 +8,11 @@ ghost use Rattle.straight_decls.specs.declared.fault.TextFault.TheVariants as fa
 use crate::expr::{FORMULA_DEPTH, expr_of};
 use crate::fault::TextFault;
 use crate::token::{expect, place};
+use rel_lexer::Token;
+use std::alloc::Global;
 use straight_lang::bundle::{Clause, RelClause};
 use straight_lang::formula::Formula;
 use straight_lang::relation::RelFormula;
-use rel_lexer::Token;
-use std::alloc::Global;
 
 #[tactic(auto, unfolding(crate::specs::Reading::clause_at))]
 pub fn clause<'a>(tokens: &'a [Token<'a>]) -> Result<(Clause, &'a [Token<'a>]), TextFault>

@@ -11,10 +11,10 @@ use crate::fault::TextFault;
 use crate::formula::rel_clause;
 use crate::proc::procedure;
 use crate::token::{MOST, expect, is_next, name_of, place};
-use straight_lang::bundle::{Bundle, Decl, Item, Judgement, Proc, UnitItem};
 use rel_lexer::Token;
 use rel_list::{List, Name};
 use std::alloc::Global;
+use straight_lang::bundle::{Bundle, Decl, Item, Judgement, Proc, UnitItem};
 
 /// The procedures up to a closing brace.
 fn procs<'a>(

@@ -19,10 +19,10 @@ mod proc;
 mod token;
 
 pub use fault::TextFault;
-use straight_lang::bundle::Bundle;
 use rel_lexer::{LexFault, lex};
 use std::alloc::Global;
 use std::str::from_utf8;
+use straight_lang::bundle::Bundle;
 
 /// The bundle that the text stands for. A bundle that passes the limits is refused.
 pub fn parse_bundle(alloc: Global, text: &[u8]) -> Result<Bundle, TextFault>

@@ -12,12 +12,12 @@ use crate::expr::BODY_DEPTH;
 use crate::fault::TextFault;
 use crate::formula::clause;
 use crate::token::{expect, name_of, place};
-use straight_lang::bundle::{Body, Clause, Decl, Effect, Proc, Spec};
-use straight_lang::command::Command;
-use straight_lang::expr::Ty;
 use rel_lexer::Token;
 use rel_list::{List, Name};
 use std::alloc::Global;
+use straight_lang::bundle::{Body, Clause, Decl, Effect, Proc, Spec};
+use straight_lang::command::Command;
+use straight_lang::expr::Ty;
 
 /// What it requires and ensures.
 #[tactic(auto, unfolding(crate::specs::Reading::clauses_at))]

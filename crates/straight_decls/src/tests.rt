@@ -1,8 +1,8 @@
 //! A bundle of two units and a judgement, and texts that are read or refused.
 
 use super::*;
-use straight_lang::bundle::Item;
 use std::test::Fail;
+use straight_lang::bundle::Item;
 
 /// The first unit up to its body.
 const HEAD: &str =

@@ -16,15 +16,15 @@ ghost use Rattle.straight_linking.specs.Form.{HasForm};
 ghost use Rattle.straight_linking.specs.Parts.{HasFew, parts_view};
 
 use crate::form::Parts;
-use straight_lang::bundle::{Decl, Judgement, Proc, UnitItem};
-use straight_lang::command::{Command, Form};
-use straight_lang::expr::Expr;
-use straight_lang::relation::RelFormula;
 use rel_list::{Boxed, List, Memory, Name};
 use rel_logic::fol::Fol;
 use rel_logic::sequent::Sequent;
 use rel_logic::term::{Sort, Term};
 use std::alloc::Global;
+use straight_lang::bundle::{Decl, Judgement, Proc, UnitItem};
+use straight_lang::command::{Command, Form};
+use straight_lang::expr::Expr;
+use straight_lang::relation::RelFormula;
 
 /// A variable of a program, and the term that stands for it.
 #[derive(Drop)]

@@ -9,11 +9,11 @@ ghost use Rattle.straight_linking.specs.Parts.{visible, ReadsRel, held_in, IsNam
 use crate::form::Parts;
 use crate::form::plain::is_plain;
 use crate::form::scope::reads_only;
+use rel_list::List;
 use straight_lang::biprogram::{Align, BiCommand, BiForm};
 use straight_lang::bundle::{Decl, UnitItem};
 use straight_lang::command::{Command, same_commands};
 use straight_lang::relation::RelFormula;
-use rel_list::List;
 
 /// Whether the units and the judgement are of the form.
 pub fn is_judged(p: &Parts) -> bool

@@ -5,9 +5,9 @@ ghost use Rattle.std.specs.List.{AllByRecursion};
 ghost use Rattle.straight_linking.specs.Parts.{IsPlainIn, IsPlain};
 
 use crate::form::scope::{are_declared, are_distinct, is_listed, reads_only};
+use rel_list::List;
 use straight_lang::bundle::{Decl, Effect, Proc, UnitItem};
 use straight_lang::command::{Command, Form};
-use rel_list::List;
 
 /// Whether the unit is one of the form, where this is its one procedure.
 pub fn is_plain(u: &UnitItem, p: &Proc) -> bool

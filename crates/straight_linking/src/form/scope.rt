@@ -9,9 +9,9 @@ ghost use Rattle.straight_lang.specs.Typed.{IsAmong, AreDistinct};
 ghost use Rattle.straight_lang.specs.View.{exp_of, effect_of};
 ghost use Rattle.straight_linking.specs.Parts.{names_of, visible, Reads, IsNamedIn};
 
+use rel_list::{List, Name};
 use straight_lang::bundle::{Decl, Effect};
 use straight_lang::expr::Expr;
-use rel_list::{List, Name};
 
 /// Whether the name is declared, from the declaration with this index on.
 #[tactic(auto, using(crate::proofs::FormsLists::searching))]

@@ -8,8 +8,8 @@ ghost use Rattle.straight_lang.specs.declared.bundle.Proc as Q;
 ghost use Rattle.straight_linking.specs.Parts.{Held, held_in, IsHeld};
 
 use crate::form::Parts;
-use straight_lang::bundle::{Bundle, Item, Judgement, Proc, UnitItem};
 use rel_list::List;
+use straight_lang::bundle::{Bundle, Item, Judgement, Proc, UnitItem};
 
 /// The two units with a procedure each and the judgement that a bundle consists of.
 pub fn shape_of(b: &Bundle) -> Option<Parts<'_>>

@@ -3,18 +3,18 @@
 ghost use Rattle.std.specs.Prelude.{◌≡◌, ◌≤◌, length, IfOk};
 
 use super::sequent;
-use straight_lang::biprogram::Align;
-use straight_lang::bundle::{Body, Clause, Decl, Judgement, Proc, RelClause, Spec, UnitItem};
-use straight_lang::command::{Command, Form};
-use straight_lang::expr::{Expr, Ty};
-use straight_lang::formula::Formula;
-use straight_lang::relation::RelFormula;
 use rel_list::{Boxed, List, Memory, Name};
 use rel_logic::fol::Fol;
 use rel_logic::sequent::Sequent;
 use rel_logic::term::{Sort, Term};
 use std::alloc::Global;
 use std::test::Fail;
+use straight_lang::biprogram::Align;
+use straight_lang::bundle::{Body, Clause, Decl, Judgement, Proc, RelClause, Spec, UnitItem};
+use straight_lang::command::{Command, Form};
+use straight_lang::expr::{Expr, Ty};
+use straight_lang::formula::Formula;
+use straight_lang::relation::RelFormula;
 
 fn name(alloc: Global) -> Result<Name, Memory> {
     Name::new(alloc, "x")
