@@ -137,15 +137,27 @@ impl BiLoop {
     pub fn copy(&self) -> Result<BiLoop, Memory>
         ensures { IfOk result (λ l. l ≡ self.now) }
     {
-        let unary = both(self.tests.copied(), self.invs.copied());
-        let relational = both(self.rel.copy(), self.guards.copied());
-        let ((tests, invs), (rel, guards)) = both(unary, relational)?;
+        let ((tests, invs), (rel, guards)) = both(self.copy_unary(), self.copy_relational())?;
         Ok(BiLoop {
             tests,
             invs,
             rel,
             guards,
         })
+    }
+
+    /// Copies of the tests and of the invariants of the two sides.
+    fn copy_unary(&self) -> Result<((Formula, Formula), (Formula, Formula)), Memory>
+        ensures { IfOk result (λ u. (u.0 ≡ self.now.tests) × (u.1 ≡ self.now.invs)) }
+    {
+        both(self.tests.copied(), self.invs.copied())
+    }
+
+    /// Copies of the relational invariant and of the guards.
+    fn copy_relational(&self) -> Result<(RelFormula, (RelFormula, RelFormula)), Memory>
+        ensures { IfOk result (λ r. (r.0 ≡ self.now.rel) × (r.1 ≡ self.now.guards)) }
+    {
+        both(self.rel.copy(), self.guards.copied())
     }
 }
 

@@ -368,3 +368,151 @@ impl Client {
         })
     }
 }
+
+impl Interface {
+    pub fn copy(&self) -> Result<Interface, Memory>
+        ensures { IfOk result (λ i. i ≡ self.now) }
+    {
+        let heading = copy_state(&self.name, &self.globals, &self.boundary);
+        let members = copy_members(&self.init_ensures, &self.init_writes, &self.methods);
+        let ((name, globals, boundary), (init_ensures, init_writes, methods)) = both(
+            heading, members,
+        )?;
+        Ok(Interface {
+            at: self.at,
+            name,
+            globals,
+            boundary_at: self.boundary_at,
+            boundary,
+            init_ensures,
+            init_writes,
+            methods,
+        })
+    }
+}
+
+/// Copies of the name, the globals and the boundary of an interface.
+fn copy_state(
+    name: &Name,
+    globals: &List<Decl>,
+    boundary: &List<Place>,
+) -> Result<(Name, List<Decl>, List<Place>), Memory>
+    ensures { IfOk result (λ s. (s.0 ≡ name.now) × (s.1 ≡ globals.now) × (s.2 ≡ boundary.now)) }
+{
+    let ((name, globals), boundary) = both(both(name.copy(), globals.copied()), boundary.copied())?;
+    Ok((name, globals, boundary))
+}
+
+/// Copies of the specification of the init and of the methods of an interface.
+fn copy_members(
+    ensured: &Clause,
+    writes: &List<Effect>,
+    methods: &List<Sig>,
+) -> Result<(Clause, List<Effect>, List<Sig>), Memory>
+    ensures { IfOk result (λ m. (m.0 ≡ ensured.now) × (m.1 ≡ writes.now) × (m.2 ≡ methods.now)) }
+{
+    let ((ensured, writes), methods) = both(
+        both(ensured.copy(), writes.copied()),
+        methods.copied(),
+    )?;
+    Ok((ensured, writes, methods))
+}
+
+impl Module {
+    pub fn copy(&self) -> Result<Module, Memory>
+        ensures { IfOk result (λ m. m ≡ self.now) }
+    {
+        let names = both(self.name.copy(), self.interface.copy());
+        let state = both(self.globals.copied(), self.invariant.copy());
+        let bodies = both(self.init.copy(), self.methods.copied());
+        let ((name, interface), ((globals, invariant), (init, methods))) = both(
+            names,
+            both(state, bodies),
+        )?;
+        Ok(Module {
+            at: self.at,
+            name,
+            interface,
+            globals,
+            invariant,
+            init,
+            methods,
+        })
+    }
+}
+
+impl Judgement {
+    pub fn copy(&self) -> Result<Judgement, Memory>
+        ensures { IfOk result (λ j. j ≡ self.now) }
+    {
+        let sides = both(self.left.copied(), self.right.copied());
+        let clauses = both(self.needs.copy(), self.gives.copy());
+        let ((name, (left, right)), ((needs, gives), align)) = both(
+            both(self.name.copy(), sides),
+            both(clauses, self.align.copy()),
+        )?;
+        Ok(Judgement {
+            at: self.at,
+            name,
+            left,
+            right,
+            needs,
+            gives,
+            align,
+        })
+    }
+}
+
+impl Pair {
+    pub fn copy(&self) -> Result<Pair, Memory>
+        ensures { IfOk result (λ p. p ≡ self.now) }
+    {
+        let modules = both(self.left.copy(), self.right.copy());
+        let alignments = both(self.init.copied(), self.methods.copied());
+        let ((name, (left, right)), (coupling, (init, methods))) = both(
+            both(self.name.copy(), modules),
+            both(self.coupling.copy(), alignments),
+        )?;
+        Ok(Pair {
+            at: self.at,
+            name,
+            left,
+            right,
+            coupling,
+            init,
+            methods,
+        })
+    }
+}
+
+impl Item {
+    pub fn copy(&self) -> Result<Item, Memory>
+        ensures { IfOk result (λ i. i ≡ self.now) }
+    {
+        match self {
+            Item::Class(class) => Ok(Item::Class(class.copy()?)),
+            Item::Interface(interface) => Ok(Item::Interface(interface.copy()?)),
+            Item::Module(module) => Ok(Item::Module(module.copy()?)),
+            Item::UnitItem(unit) => Ok(Item::UnitItem(unit.copy()?)),
+            Item::Client(client) => Ok(Item::Client(client.copy()?)),
+            Item::Judge(judgement) => Ok(Item::Judge(judgement.copy()?)),
+            Item::Pair(pair) => Ok(Item::Pair(pair.copy()?)),
+        }
+    }
+}
+
+impl Copies for Item {
+    fn copied(&self) -> Result<Item, Memory> {
+        self.copy()
+    }
+}
+
+impl Bundle {
+    pub fn copy(&self) -> Result<Bundle, Memory>
+        ensures { IfOk result (λ b. b ≡ self.now) }
+    {
+        Ok(Bundle {
+            items: self.items.copied()?,
+        })
+    }
+}
