@@ -1,5 +1,5 @@
 -- A text is refused at one token at most, and for one reason.
-use Rattle.std.proofs.Common.{◌≡◌, ℕ, zero, suc, ◌<◌, ◌≤◌, List, [], ◌∷◌, ◌⊎◌, inl, inr, refl, sym, subst, arith}
+use Rattle.std.proofs.Common.{◌≡◌, ℕ, zero, suc, ◌<◌, ◌≤◌, List, [], ◌∷◌, ◌⊎◌, inl, inr, refl, subst, arith}
 use Rattle.rel_lang.specs.Text.{Mark, show_tokens}
 use Rattle.rel_lang.specs.Tokens.{Token}
 use Rattle.rel_lang.specs.Refusal.{Limits, limits, IsWithin, GoesOn, AreWithin, Reason, Unexpected, TooDeep, TooMany, IsOver, IsOverAt, reach, IsRefused}

@@ -1,6 +1,6 @@
 -- The trees of the language, as the definitions speak of them: those of the code, without boxes. A number `at` is the byte where the tokens of
 -- the tree begin.
-use Rattle.std.specs.Prelude.{ℕ, ℤ, List, [], ◌∷◌}
+use Rattle.std.specs.Prelude.{ℕ, ℤ, List}
 
 -- a name, as its bytes
 abbrev pub Word : Type 0
