@@ -1,5 +1,5 @@
 -- From what is found for two units and a judgement to what is found for a bundle.
-use Rattle.std.proofs.Common.{◌≡◌, ◌≢◌, ℕ, zero, suc, ◌+◌, ◌^◌, ◌<◌, ◌≤◌, List, [], ◌∷◌, ◌++◌, length, map, get_or, Option, Some, None, refl, sym, ap, subst, ◌∙◌, arith}
+use Rattle.std.proofs.Common.{◌≡◌, ◌≢◌, ℕ, suc, ◌+◌, ◌^◌, ◌<◌, ◌≤◌, List, [], ◌∷◌, ◌++◌, length, map, get_or, Option, Some, None, refl, sym, ap, subst, ◌∙◌, arith}
 use Rattle.std.specs.List.{AllByRecursion}
 use Rattle.std.proofs.lemmas.List.{length-map}
 use Rattle.std.specs.Prelude.{codes}
@@ -14,7 +14,6 @@ use Rattle.rel_lang.specs.declared.bundle.Item.TheVariants as IV
 use Rattle.rel_lang.specs.View.{decl_of, proc_of, unit_of, item_of}
 use Rattle.rel_logic.specs.View.{sequent_of}
 use Rattle.rel_logic.specs.declared.sequent.Sequent.{Sequent}
-use Rattle.rel_linking.specs.Form.{Parts, IsStraight}
 use Rattle.rel_linking.specs.Obligation.{block_len, obligation_of}
 use Rattle.rel_linking.specs.Parts.{AreJudged, HasFew}
 use Rattle.rel_linking.specs.Scope.{parts_of, IsAnswer, IsAnswerFor}

@@ -1,11 +1,11 @@
 -- Where the obligation is valid, two runs that start related end related.
-use Rattle.std.proofs.Common.{◌≡◌, zero, suc, pos, true, false, IsTrue, List, [], ◌∷◌, ◌++◌, length, replicate, Some, None, refl, sym, ap, subst, ◌∙◌}
+use Rattle.std.proofs.Common.{◌≡◌, zero, suc, pos, true, IsTrue, List, [], ◌∷◌, ◌++◌, length, replicate, Some, None, refl, sym, ap, subst, ◌∙◌}
 use Rattle.std.proofs.lemmas.Bool.Decides.{Decides-int_eq}
 use Rattle.rel_list.specs.References.{Ref}
 use Rattle.rel_list.specs.Pairs.{Pairs}
 use Rattle.rel_lang.specs.Syntax.{Ty, Int, RelFormula, Agree, At, Assign, Block, End, Then, Decl, Effect, Proc, UnitItem}
-use Rattle.rel_lang.specs.State.{Tables, Value, as_number, Number, Reference, Objects, default, Owner, ByUnit, ByCall, State, Scope, find_variable, write_variable, with_defaults}
-use Rattle.rel_lang.specs.Scope.{declared, unit_globals, unit_setting, result_name, result_variable, own_variables}
+use Rattle.rel_lang.specs.State.{Tables, Value, as_number, Number, Reference, Objects, default, Owner, ByUnit, ByCall, State, Scope, with_defaults}
+use Rattle.rel_lang.specs.Scope.{unit_globals, unit_setting, result_name, result_variable}
 use Rattle.rel_lang.specs.Run.{begin}
 use Rattle.rel_lang.specs.Relation.{IsBijection, related, Moment, RelHolds}
 use Rattle.rel_logic.specs.Syntax.{Srt, int_sort}

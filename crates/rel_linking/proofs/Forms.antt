@@ -3,7 +3,7 @@ use Rattle.std.proofs.Common.{◌≡◌, ◌≢◌, inl, inr, ⊎_elim, Bool, tr
 use Rattle.std.proofs.lemmas.Slice.Eq.{bytes_eq-Decides}
 use Rattle.rel_lang.specs.Syntax.{Word, Int, Expression, RelFormula, Agree, Command, At, Skip, Assign, Load, Store, New, Call, If, While, Block, End, Then, Split, BiAt, BiEnd, BiThen, Align, Given, Proc, UnitItem, Judgement, OfUnit, OfJudgement, Bundle, without_at, command_without_at}
 use Rattle.rel_lang.specs.State.{Tables, tables_of, Scope, find_named}
-use Rattle.rel_lang.specs.Scope.{unit_globals, unit_setting, result_name, result_variable}
+use Rattle.rel_lang.specs.Scope.{unit_globals, result_name}
 use Rattle.rel_lang.specs.Lookup.{find_proc, Subject, subject_of}
 use Rattle.rel_lang.specs.Typed.{Names, IsTypedRel, IsTypedCommand, IsTypedBlock, Sides, IsTypedAlign, IsTypedJudgement, IsTypedItem, subject_names}
 use Rattle.rel_lang.specs.declared.bundle.UnitItem as U
@@ -13,10 +13,10 @@ use Rattle.rel_lang.specs.declared.bundle.Item as I
 use Rattle.rel_lang.specs.declared.bundle.Item.TheVariants as IV
 use Rattle.rel_lang.specs.View.{decl_of, rel_of, align_of, block_of, proc_of, unit_of, judgement_of, item_of}
 use Rattle.rel_linking.specs.Form as F
-use Rattle.rel_linking.specs.Form.{IsAgreement, IsPlainUnit, IsSplitOf, HasParts, IsStraight}
-use Rattle.rel_linking.specs.Parts.{names_of, IsInt, Reads, ReadsRel, Held, IsJudged, AreJudged, parts_of_held}
+use Rattle.rel_linking.specs.Form.{IsAgreement, IsSplitOf, IsStraight}
+use Rattle.rel_linking.specs.Parts.{names_of, Reads, ReadsRel, Held, IsJudged, AreJudged, parts_of_held}
 use Rattle.rel_linking.proofs.FormsScope.{names_in, AreInts, agreement, typed_exp, read_exp}
-use Rattle.rel_linking.proofs.FormsUnit.{body_of, pre_is, post_is, names_globals, ints_globals, ints_body, reads_body, body_reads, plain_unit, typed_proc, typed_unit, is_plain}
+use Rattle.rel_linking.proofs.FormsUnit.{pre_is, post_is, names_globals, ints_globals, ints_body, reads_body, body_reads, plain_unit, typed_proc, typed_unit, is_plain}
 
 -- ---- a block is typed whatever its places are
 

@@ -1,9 +1,9 @@
 -- Where a unit of one procedure is typed, and of the form.
-use Rattle.std.proofs.Common.{◌≡◌, ◌⊎◌, inl, inr, ⊎_elim, ℕ, Option, Some, None, Bool, true, false, IsTrue, IsSomeAnd, List, [], ◌∷◌, ◌++◌, map, refl, sym, ap, subst, ◌∙◌}
+use Rattle.std.proofs.Common.{◌≡◌, ◌⊎◌, inl, inr, ⊎_elim, Some, Bool, true, false, IsTrue, List, [], ◌∷◌, ◌++◌, map, refl, sym, ap, subst, ◌∙◌}
 use Rattle.std.specs.List.{AllByRecursion}
 use Rattle.std.proofs.lemmas.List.{append-nil, map-append}
-use Rattle.rel_lang.specs.Syntax.{Word, Ty, Int, Expression, Formula, True, Command, At, Form, Assign, Then, Decl, Effect, Global, Locations, Proc, UnitItem}
-use Rattle.rel_lang.specs.State.{Tables, Owner, ByUnit, ByCall, Variable, Scope, find_variable}
+use Rattle.rel_lang.specs.Syntax.{Word, Ty, Int, Expression, Formula, True, Command, At, Assign, Then, Decl, Effect, Global, Locations, Proc, UnitItem}
+use Rattle.rel_lang.specs.State.{Tables, Owner, ByUnit, ByCall, Variable, Scope}
 use Rattle.rel_lang.specs.Scope.{Setting, declared, unit_globals, unit_setting, result_name, result_variable, globals_of, pre_scope, post_scope, body_scope}
 use Rattle.rel_lang.specs.Typed.{IsAmong, AreDistinct, IsDeclaredType, HaveTypes, IsTypedFormula, Signature, Names, IsTypedCommand, IsTypedBlock, IsTypedEffect, IsTypedProc, IsTypedUnit, signature_of_proc}
 use Rattle.rel_lang.specs.declared.command.Command as C
@@ -11,11 +11,11 @@ use Rattle.rel_lang.specs.declared.bundle.Decl as D
 use Rattle.rel_lang.specs.declared.bundle.Effect as E
 use Rattle.rel_lang.specs.declared.bundle.Proc as Q
 use Rattle.rel_lang.specs.declared.bundle.UnitItem as U
-use Rattle.rel_lang.specs.View.{type_of, decl_of, effect_of, command_of, block_of, proc_of, unit_of}
-use Rattle.rel_linking.specs.Form.{IsArithmetic, IsListed, IsGlobal, AssignsListed, IsPlainUnit}
+use Rattle.rel_lang.specs.View.{decl_of, effect_of, command_of, block_of, proc_of, unit_of}
+use Rattle.rel_linking.specs.Form.{IsListed, IsGlobal, AssignsListed, IsPlainUnit}
 use Rattle.rel_linking.specs.Parts.{names_of, Reads, IsInt, IsPlainCommand, IsNamedIn, IsPlainIn, IsPlain}
 use Rattle.rel_linking.specs.Parts as parts
-use Rattle.rel_linking.proofs.FormsScope.{names_in, IsOfInt, AreInts, found, lost, some_map, found_some, lost_some, arithmetic, code, typed_exp, read_exp, reads_more, to_end, to_head, distinct_to_end}
+use Rattle.rel_linking.proofs.FormsScope.{names_in, AreInts, found, found_some, lost_some, arithmetic, code, typed_exp, read_exp, reads_more, to_end, to_head, distinct_to_end}
 
 -- ---- scopes
 

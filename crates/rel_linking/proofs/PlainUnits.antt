@@ -1,5 +1,5 @@
 -- A procedure of a plain unit meets its specification.
-use Rattle.std.proofs.Common.{◌≡◌, ◌≢◌, ◌⊎◌, Bool, true, false, ◌&&◌, ◌||◌, if◌then◌else◌, IsTrue, IsFalse, ⊎_elim, inl, inr, Option, Some, None, List, [], ◌∷◌, ◌++◌, map, refl, sym, ap, subst, ◌∙◌}
+use Rattle.std.proofs.Common.{◌≡◌, ◌≢◌, ◌⊎◌, Bool, true, false, ◌||◌, if◌then◌else◌, IsTrue, IsFalse, ⊎_elim, inl, inr, Option, Some, None, List, [], ◌∷◌, ◌++◌, map, refl, sym, ap, subst, ◌∙◌}
 use Rattle.std.specs.List.{AllByRecursion, list_any}
 use Rattle.std.specs.Str.{bytes_eq}
 use Rattle.std.specs.FinSet.{contains-is_subset}
@@ -7,16 +7,16 @@ use Rattle.rel_list.proofs.Sets.{obj_total}
 use Rattle.rel_list.specs.References.{Obj, Region, is_in}
 use Rattle.rel_list.specs.Regions.{is_within}
 use Rattle.rel_lang.specs.Syntax.{Word, Ty, Int, Formula, True, At, Assign, Block, End, Then, Decl, Effect, Global, Locations, Proc, UnitItem}
-use Rattle.rel_lang.specs.State.{Tables, Value, find_field, Number, default, Owner, ByUnit, ByCall, State, Variable, is_variable, Scope, find_variable, value_in, write_variable, with_defaults, ClassField, LocationFits, IsWellFormed}
+use Rattle.rel_lang.specs.State.{Tables, Value, find_field, default, Owner, ByUnit, ByCall, State, Variable, Scope, find_variable, write_variable, with_defaults, ClassField, LocationFits, IsWellFormed}
 use Rattle.rel_lang.specs.Scope.{Setting, declared, unit_globals, unit_setting, result_name, result_variable, pre_scope, post_scope, own_variables, body_scope}
 use Rattle.rel_lang.specs.Truth.{holds}
 use Rattle.rel_lang.specs.Run.{code_of, begin, unit_program}
-use Rattle.rel_lang.specs.Meets.{is_found, lists_variable, may_change, Contract, unit_contract, EndsWell, Meets}
+use Rattle.rel_lang.specs.Meets.{is_found, lists_variable, may_change, unit_contract, EndsWell, Meets}
 use Rattle.rel_lang.specs.Typed.{IsAmong, AreDistinct}
 use Rattle.rel_linking.specs.Form.{IsListed, AssignsListed, IsPlainUnit}
-use Rattle.rel_linking.proofs.FormsScope.{names_in, AreInts, found_some, lost_some}
+use Rattle.rel_linking.proofs.FormsScope.{AreInts}
 use Rattle.rel_linking.proofs.FormsUnit.{pre_is, body_is, ints_append}
-use Rattle.rel_linking.proofs.Runs.{each_append, words_differ, word_itself, not_the_calls, final, run_end, final_alloc, final_heap, defaults_alloc, defaults_heap, IsNumber, AreNumbers, AreFit, fit_numbers, numbers_fit, default_number, write_numbers, write_apart, write_itself, final_numbers}
+use Rattle.rel_linking.proofs.Runs.{each_append, words_differ, not_the_calls, final, run_end, final_alloc, final_heap, defaults_alloc, defaults_heap, IsNumber, AreNumbers, fit_numbers, numbers_fit, default_number, write_numbers, write_apart, write_itself, final_numbers}
 
 -- ---- the start
 

@@ -1,5 +1,5 @@
 -- Where the obligation is valid, the judgement is true.
-use Rattle.std.proofs.Common.{◌≡◌, ℕ, ◌+◌, false, IsTrue, zero-add, List, [], ◌∷◌, ◌++◌, length, drop, map, replicate, refl, sym, ap, subst, ◌∙◌, append_assoc}
+use Rattle.std.proofs.Common.{◌≡◌, ℕ, ◌+◌, false, IsTrue, zero-add, List, [], ◌∷◌, ◌++◌, length, drop, replicate, refl, sym, ap, subst, ◌∙◌, append_assoc}
 use Rattle.std.proofs.lemmas.List.{length-map}
 use Rattle.std.proofs.lemmas.List.Elements.{All-from_recursion}
 use lib.ListN.{replicate-append-replicate}
@@ -12,7 +12,7 @@ use Rattle.rel_lang.specs.Scope.{unit_globals, unit_setting, pre_scope, body_sco
 use Rattle.rel_lang.specs.Lookup.{Subject}
 use Rattle.rel_lang.specs.Run.{Picks, Done, code_of, begin, unit_program}
 use Rattle.rel_lang.specs.Relation.{IsBijection, Moment, at_entry, RelHolds}
-use Rattle.rel_lang.specs.Judgement.{subject_run, at_end, EndsRelated, AreStarts, IsTrueOf}
+use Rattle.rel_lang.specs.Judgement.{subject_run, EndsRelated, IsTrueOf}
 use Rattle.rel_lang.specs.Typed.{AreDistinct, names_of}
 use Rattle.rel_logic.specs.Syntax.{int_sort, rgn_sort, bij_sort}
 use Rattle.rel_logic.specs.Truth.{Elem, Valuation, FitsSorts, IsMember, ArePartners, as_pairs, as_rgn, IsTrueAt, IsValid}
