@@ -1,8 +1,8 @@
 -- Atoms of commands with their semicolon are read exactly.
-use Rattle.std.proofs.Common.{◌≡◌, ℕ, zero, suc, ◌+◌, ◌<◌, ◌≤◌, Bool, true, false, List, [], ◌∷◌, ◌++◌, length, Option, Some, None, ◌⊎◌, inl, inr, refl, sym, ap, subst, ◌∙◌, append_assoc, arith}
+use Rattle.std.proofs.Common.{◌≡◌, ℕ, suc, ◌+◌, ◌<◌, ◌≤◌, Bool, true, false, List, [], ◌∷◌, ◌++◌, length, Some, ◌⊎◌, inl, inr, refl, sym, ap, subst, ◌∙◌, arith}
 use Rattle.std.proofs.Math.Path.{fun_ext, ap₂}
 use Rattle.std.proofs.lemmas.Bool.{and_parts, and_from, and_left, and_right}
-use Rattle.std.proofs.lemmas.List.{append-nil, length-append}
+use Rattle.std.proofs.lemmas.List.{length-append}
 use Rattle.std.specs.Prelude.{codes, if◌then◌else◌}
 use Rattle.std.specs.List.{AllByRecursion}
 use Rattle.rel_lang.specs.Syntax.{Word, Expression, Var, Num, Null, Empty, Alloc, Add, Sub, Mul, Field, Single, Union, Meet, Minus, Image as Imaged, Filter, Old, Form, Skip, Assign, Load, Store, New, Call}
@@ -10,18 +10,18 @@ use Rattle.rel_lang.specs.Text.{Fixed, Mark, word, named, listed, show_expressio
 use Rattle.rel_lang.specs.Tokens.{is_name}
 use Rattle.rel_lang.specs.Refusal.{Limits, GoesOn, IsBefore, Reason}
 use Rattle.rel_lexer.specs.declared.Token.{Token}
-use Rattle.rel_lexer.specs.Tokens.{tokens_of, HasKind}
+use Rattle.rel_lexer.specs.Tokens.{tokens_of}
 use Rattle.rel_lexer.specs.declared.Kind.{Kind}
 use Rattle.rel_lexer.specs.declared.Kind.TheVariants as kind
 use Rattle.rel_lexer.specs.declared.keywords.Keyword.TheVariants as keyword
 use Rattle.rel_lexer.specs.declared.symbols.Symbol.TheVariants as symbol
 use Rattle.rel_lexer.proofs.Kinding.{kind_of_name}
 use Rattle.rel_parse.specs.Reading.{Reading, Got, Refused, Reader, then_read, unexpected, same_fixed, is_name_kind, is_next, is_second, is_name_next, name_at, expect_at, made, both, after, before, either, listed_at}
-use Rattle.rel_parse.specs.Firsts.{First, AName, ANumber, This, begins_one}
+use Rattle.rel_parse.specs.Firsts.{First, AName, ANumber, This}
 use Rattle.rel_parse.specs.Expressions.{expression_firsts}
 use Rattle.rel_parse.specs.Commands.{call_at, is_field_next, field_at, value_at, stored_at, named_at, atom_at}
 use Rattle.rel_parse.proofs.Laws.{HaveKinds, CanAllBeSaid, AreTold, Good, Reads, Always, NeverBegins, AlwaysBegins, show_either, ShapeEither, name_reads, word_reads, both_reads, after_reads, before_reads, made_reads, told_reads, listed_reads}
-use Rattle.rel_parse.proofs.Firsts.{BeginsAs, Part, Image, choose_of, production, whole, always_begins, never_begins, kind_said, fixed_of_kind, told_append}
+use Rattle.rel_parse.proofs.Firsts.{BeginsAs, Image, choose_of, production, whole, always_begins, never_begins, kind_said, fixed_of_kind}
 use Rattle.rel_parse.proofs.Told.{told_first, told_first_reads, Tells, only, either_twice, if_taken}
 use Rattle.rel_parse.proofs.Renamed.{made_made, made_after, made_either}
 use Rattle.rel_parse.proofs.Ended.{before_made, before_after, before_both, before_either, first_alone, then_then}

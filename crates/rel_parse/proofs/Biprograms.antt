@@ -1,32 +1,32 @@
 -- Bicommands with their semicolon, and biblocks, are read exactly.
-use Rattle.std.proofs.Common.{◌≡◌, ℕ, zero, suc, ◌+◌, ◌<◌, ◌≤◌, Bool, true, false, List, [], ◌∷◌, ◌++◌, length, ◌⊎◌, inl, inr, refl, sym, ap, subst, ◌∙◌, append_assoc, arith}
+use Rattle.std.proofs.Common.{◌≡◌, ℕ, zero, suc, ◌+◌, ◌<◌, ◌≤◌, true, List, [], ◌∷◌, ◌++◌, length, ◌⊎◌, inl, inr, refl, sym, ap, subst, ◌∙◌, append_assoc, arith}
 use Rattle.std.proofs.Math.Path.{fun_ext, ap₂}
 use Rattle.std.proofs.lemmas.Bool.{or_cases}
-use Rattle.std.specs.Prelude.{codes, ◌||◌}
+use Rattle.std.specs.Prelude.{codes}
 use Rattle.std.specs.List.{AllByRecursion}
-use Rattle.rel_lang.specs.Syntax.{Word, Expression, Formula, True, RelFormula, RelTrue, Command, At, Form, Skip, Assign, Load, Store, New, Call, If, While, Block, End, BiLoop, BiCommand, BiAt, BiForm, Split, Sync, SyncCall, BiIf, BiWhile, Link, Note, BiBlock, BiEnd, BiThen}
+use Rattle.rel_lang.specs.Syntax.{Word, Formula, True, RelFormula, RelTrue, Command, At, Skip, Assign, Load, Store, New, Call, If, While, Block, End, BiLoop, BiCommand, BiAt, BiForm, Split, Sync, SyncCall, BiIf, BiWhile, Link, Note, BiBlock, BiEnd, BiThen}
 use Rattle.rel_lang.specs.Text.{Mark, word, named, braced, sides, begins, tree, element, repeated, show_formula, show_rel, show_form, show_command, show_block, show_loop, show_biform, show_bicommand, show_bicommands, show_biblock, IsShapedBiform, IsShapedBicommand, IsShapedBiblock}
 use Rattle.rel_lang.specs.Refusal.{Limits, GoesOn, Reason}
 use Rattle.rel_lang.specs.View.{biblock_from}
 use Rattle.rel_lexer.specs.declared.Token.{Token}
-use Rattle.rel_lexer.specs.Tokens.{tokens_of, HasKind}
+use Rattle.rel_lexer.specs.Tokens.{tokens_of}
 use Rattle.rel_lexer.specs.declared.Kind.{Kind}
 use Rattle.rel_lexer.specs.declared.Kind.TheVariants as kind
 use Rattle.rel_lexer.specs.declared.keywords.Keyword.TheVariants as keyword
 use Rattle.rel_lexer.specs.declared.symbols.Symbol.TheVariants as symbol
-use Rattle.rel_parse.specs.Reading.{Reading, Refused, Reader, same_fixed, is_next, name_at, expect_at, made, both, after, before, placed, either, many_at, too_deep_at}
-use Rattle.rel_parse.specs.Firsts.{First, This, begins_one}
+use Rattle.rel_parse.specs.Reading.{Refused, Reader, same_fixed, is_next, name_at, expect_at, made, both, after, before, placed, either, many_at, too_deep_at}
+use Rattle.rel_parse.specs.Firsts.{First, This}
 use Rattle.rel_parse.specs.Formulas.{formula_at}
 use Rattle.rel_parse.specs.Relations.{rel_at}
 use Rattle.rel_parse.specs.Commands.{branches_at, block_at}
-use Rattle.rel_parse.specs.Biprograms.{sides_at, sync_at, plain_at, loop_from, biloop_at, biform_at, bicommand_firsts, begins_bicommand, ended_bicommand_at, biblock_at, bicommand_at}
+use Rattle.rel_parse.specs.Biprograms.{sides_at, sync_at, loop_from, biloop_at, biform_at, bicommand_firsts, begins_bicommand, ended_bicommand_at, biblock_at, bicommand_at}
 use Rattle.rel_parse.proofs.Laws.{HaveKinds, CanAllBeSaid, AreTold, Good, Refuses, Reads, Always, NeverBegins, AlwaysBegins, SomeBegins, IsBare, IsShallow, IsTooDeep, name_reads, word_reads, both_reads, after_reads, before_reads, made_reads, placed_reads, tree_reads, too_deep_reads, many_reads, many_none_reads}
 use Rattle.rel_parse.proofs.Firsts.{BeginsAs, Part, Image, choose_of, production, always_begins, never_begins, some_mark, told_append, fixed_of_kind}
 use Rattle.rel_parse.proofs.Ended.{before_made, before_after, before_placed, before_either, before_too_deep, made_first}
 use Rattle.rel_parse.proofs.Renamed.{made_after}
 use Rattle.rel_parse.proofs.Atoms.{semicolon, closed, Fresh, Called, Loaded, Plain, Stored, Valued}
 use Rattle.rel_parse.proofs.Commands.{told_braced, told_form, told_commands, told_closed, begins_tree, unleveled, can_tree, block_reads}
-use Rattle.rel_parse.proofs.Synced.{Synced, Idle, Does, synced_form, synced_from, show_sync, show_synced_at, synced_at, sync_is, synced_at_reads}
+use Rattle.rel_parse.proofs.Synced.{Synced, Idle, Does, synced_from, show_synced_at, synced_at, sync_is, synced_at_reads}
 use Rattle.rel_parse.proofs.Formulas.{told_formula, formula_reads}
 use Rattle.rel_parse.proofs.Relations.{told_rel, rel_reads}
 

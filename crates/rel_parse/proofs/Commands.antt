@@ -1,15 +1,15 @@
 -- Commands with their semicolon, and blocks, are read exactly.
-use Rattle.std.proofs.Common.{◌≡◌, ℕ, zero, suc, ◌+◌, ◌<◌, ◌≤◌, Bool, true, false, List, [], ◌∷◌, ◌++◌, length, ◌⊎◌, inl, inr, refl, sym, ap, subst, ◌∙◌, append_assoc, arith}
+use Rattle.std.proofs.Common.{◌≡◌, ℕ, zero, suc, ◌+◌, ◌<◌, ◌≤◌, true, List, [], ◌∷◌, ◌++◌, length, ◌⊎◌, inl, inr, refl, sym, ap, subst, ◌∙◌, append_assoc, arith}
 use Rattle.std.proofs.Math.Path.{fun_ext, ap₂}
 use Rattle.std.proofs.lemmas.Bool.{or_cases}
-use Rattle.std.specs.Prelude.{codes, ◌||◌}
+use Rattle.std.specs.Prelude.{codes}
 use Rattle.std.specs.List.{AllByRecursion}
-use Rattle.rel_lang.specs.Syntax.{Word, Expression, Null, Formula, True, Command, At, Form, Skip, Assign, Load, Store, New, Call, If, While, Block, End, Then}
+use Rattle.rel_lang.specs.Syntax.{Word, Expression, Formula, True, Command, At, Form, Skip, Assign, Load, Store, New, Call, If, While, Block, End, Then}
 use Rattle.rel_lang.specs.Text.{Mark, word, braced, begins, tree, element, repeated, behind, listed, show_expression, show_formula, show_form, show_command, show_commands, show_block}
 use Rattle.rel_lang.specs.Refusal.{Limits, GoesOn, Reason}
 use Rattle.rel_lang.specs.View.{block_from}
 use Rattle.rel_lexer.specs.declared.Token.{Token}
-use Rattle.rel_lexer.specs.Tokens.{tokens_of, HasKind}
+use Rattle.rel_lexer.specs.Tokens.{tokens_of}
 use Rattle.rel_lexer.specs.declared.Kind.{Kind}
 use Rattle.rel_lexer.specs.declared.Kind.TheVariants as kind
 use Rattle.rel_lexer.specs.declared.keywords.Keyword.TheVariants as keyword
@@ -18,11 +18,11 @@ use Rattle.rel_parse.specs.Reading.{Refused, Reader, same_fixed, is_name_kind, i
 use Rattle.rel_parse.specs.Firsts.{First, AName, ANumber, This, begins_one}
 use Rattle.rel_parse.specs.Expressions.{expression_at}
 use Rattle.rel_parse.specs.Formulas.{formula_at}
-use Rattle.rel_parse.specs.Commands.{branches_at, loop_at, form_at, command_firsts, begins_command, ended_command_at, commands_at, block_by, block_at, command_at}
+use Rattle.rel_parse.specs.Commands.{branches_at, loop_at, form_at, command_firsts, begins_command, ended_command_at, commands_at, block_at, command_at}
 use Rattle.rel_parse.proofs.Laws.{HaveKinds, CanAllBeSaid, AreTold, Good, Refuses, Reads, Always, NeverBegins, AlwaysBegins, SomeBegins, IsBare, IsShallow, IsTooDeep, word_reads, both_reads, after_reads, before_reads, made_reads, placed_reads, tree_reads, too_deep_reads, many_reads, many_none_reads}
 use Rattle.rel_parse.proofs.Firsts.{BeginsAs, IsFirst, are_apart, Image, choose_of, production, whole, always_begins, never_begins, some_mark, told_append, fixed_of_kind, name_of_kind}
 use Rattle.rel_parse.proofs.Ended.{before_made, before_placed, before_either, before_too_deep, made_first}
-use Rattle.rel_parse.proofs.Atoms.{semicolon, closed, Calling, Fresh, Called, Loaded, Plain, Stored, Valued, Rest, name_from, atom_reads, atom_shown, skip_reads, atom_ended, atom_same}
+use Rattle.rel_parse.proofs.Atoms.{semicolon, closed, Fresh, Called, Loaded, Plain, Stored, Valued, name_from, atom_reads, atom_shown, skip_reads, atom_ended, atom_same}
 use Rattle.rel_parse.proofs.Expressions.{told_expression, expression_reads}
 use Rattle.rel_parse.proofs.Formulas.{told_formula, formula_reads}
 

@@ -1,7 +1,7 @@
 -- A symbol behind what is read may be read further in.
-use Rattle.std.proofs.Common.{◌≡◌, Bool, true, false, refl, sym, ap, ◌∙◌}
+use Rattle.std.proofs.Common.{◌≡◌, Bool, true, false, refl, sym}
 use Rattle.std.proofs.Math.Path.{fun_ext}
-use Rattle.std.specs.Prelude.{if◌then◌else◌, ℕ, List, length}
+use Rattle.std.specs.Prelude.{if◌then◌else◌, List, length}
 use Rattle.rel_lang.specs.Refusal.{Unexpected, TooDeep}
 use Rattle.rel_lexer.specs.declared.Token.{Token}
 use Rattle.rel_lexer.specs.declared.Kind.{Kind}

@@ -24,3 +24,4 @@ pub mod Renamed
 pub mod Single
 pub mod Synced
 pub mod Told
+pub mod Trees

@@ -3,23 +3,21 @@ use Rattle.std.proofs.Common.{◌≡◌, ℕ, zero, suc, ◌+◌, ◌<◌, ◌�
 use Rattle.std.proofs.Math.Path.{fun_ext, ap₂}
 use Rattle.std.proofs.lemmas.Bool.{or_cases}
 use Rattle.std.specs.Prelude.{codes, if◌then◌else◌}
-use Rattle.rel_lang.specs.Syntax.{Word, Expression, Command, At, Form, Skip, Assign, Load, Store, New, Call, BiForm, Sync, SyncCall}
-use Rattle.rel_lang.specs.Text.{Mark, word, named, begins, tree, show_expression, show_form, show_command}
-use Rattle.rel_lang.specs.Refusal.{Limits, GoesOn, Unexpected, TooDeep}
+use Rattle.rel_lang.specs.Syntax.{Word, Expression, At, Form, Skip, Assign, Load, Store, New, Call, BiForm, Sync, SyncCall}
+use Rattle.rel_lang.specs.Text.{Mark, word, named, begins, tree, show_expression, show_form}
+use Rattle.rel_lang.specs.Refusal.{Limits, Unexpected, TooDeep}
 use Rattle.rel_lexer.specs.declared.Token.{Token}
-use Rattle.rel_lexer.specs.Tokens.{tokens_of, HasKind}
-use Rattle.rel_lexer.specs.declared.Kind.{Kind}
 use Rattle.rel_lexer.specs.declared.Kind.TheVariants as kind
 use Rattle.rel_lexer.specs.declared.keywords.Keyword.TheVariants as keyword
 use Rattle.rel_lexer.specs.declared.symbols.Symbol.TheVariants as symbol
-use Rattle.rel_parse.specs.Reading.{Reading, Got, Refused, Reader, then_read, same_fixed, is_name_kind, is_next, name_at, expect_at, place_of, made, both, after, before, placed, either, too_deep_at}
-use Rattle.rel_parse.specs.Firsts.{First, AName, ANumber, This, begins_one}
+use Rattle.rel_parse.specs.Reading.{Reading, Got, Refused, Reader, then_read, is_name_kind, is_next, name_at, expect_at, place_of, made, both, after, before, placed, either, too_deep_at}
+use Rattle.rel_parse.specs.Firsts.{AName, This}
 use Rattle.rel_parse.specs.Commands.{call_at, is_field_next, field_at, value_at, stored_at, named_at, atom_at, atom_firsts, begins_atom}
-use Rattle.rel_parse.specs.Biprograms.{is_call, used_at, atom_command_at, sync_at}
+use Rattle.rel_parse.specs.Biprograms.{used_at, atom_command_at, sync_at}
 use Rattle.rel_parse.specs.Expressions.{expression_at}
-use Rattle.rel_parse.proofs.Laws.{HaveKinds, CanAllBeSaid, AreTold, Good, Reads, Always, AlwaysBegins, SomeBegins, IsBare, name_reads, both_reads, after_reads, before_reads, placed_reads, tree_reads, too_deep_reads}
+use Rattle.rel_parse.proofs.Laws.{AreTold, Reads, Always, SomeBegins, IsBare, name_reads, both_reads, after_reads, before_reads, placed_reads, tree_reads, too_deep_reads}
 use Rattle.rel_parse.proofs.Firsts.{BeginsAs, Image, choose_of, production, whole, always_begins, some_mark, told_append, fixed_of_kind, name_of_kind}
-use Rattle.rel_parse.proofs.Ended.{then_then, before_made, before_both, before_either, before_placed}
+use Rattle.rel_parse.proofs.Ended.{then_then, before_made, before_either, before_placed}
 use Rattle.rel_parse.proofs.Atoms.{semicolon, closed, Calling, Value, Fresh, Called, Loaded, Plain, Rest, Stored, Valued, value_raw, rest_raw, Calls, all_calls, show_call, call_reads, show_named, named_ended, named_reads, named_same, skip_reads}
 use Rattle.rel_parse.proofs.Commands.{told_closed, told_form}
 use Rattle.rel_parse.proofs.Expressions.{expression_reads}

@@ -1,6 +1,6 @@
 -- How biprograms are read: at most so many in a row (`most`), and so many deep (`left`).
 use Rattle.std.specs.Prelude.{ℕ, zero, suc, Bool, true, false, if◌then◌else◌, List, [], ◌∷◌}
-use Rattle.rel_lang.specs.Syntax.{Word, Formula, RelFormula, Command, At, Call, Block, BiLoop, BiCommand, BiAt, BiForm, Split, Sync, SyncCall, BiIf, BiWhile, Link, Note, BiBlock}
+use Rattle.rel_lang.specs.Syntax.{Word, Formula, RelFormula, Command, At, Call, BiLoop, BiCommand, BiAt, BiForm, Split, Sync, SyncCall, BiIf, BiWhile, Link, Note, BiBlock}
 use Rattle.rel_lang.specs.View.{biblock_from}
 use Rattle.rel_lexer.specs.declared.Token.{Token}
 use Rattle.rel_lexer.specs.declared.Kind.TheVariants as kind

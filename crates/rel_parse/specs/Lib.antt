@@ -6,3 +6,4 @@ pub mod Formulas
 pub mod Relations
 pub mod Commands
 pub mod Biprograms
+pub mod Trees

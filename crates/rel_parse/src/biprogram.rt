@@ -1,6 +1,6 @@
 //! Reads biprograms.
 
-ghost use Rattle.std.specs.Prelude.{◌≡◌, if◌then◌else◌};
+ghost use Rattle.std.specs.Prelude.{◌≡◌};
 ghost use Rattle.rel_lang.specs.Refusal.{limits};
 ghost use Rattle.rel_lang.specs.Syntax.{BiAt, BiIf, BiWhile, Split, Link, Note};
 ghost use Rattle.rel_lexer.specs.declared.Kind.TheVariants as kind;

@@ -9,7 +9,6 @@ ghost use Rattle.rel_lexer.specs.declared.keywords.Keyword.TheVariants as word;
 ghost use Rattle.rel_lexer.specs.declared.symbols.Symbol.TheVariants as symbol;
 ghost use Rattle.rel_parse.specs.Gives.{Gives};
 ghost use Rattle.rel_parse.specs.declared.fault.Fault.TheVariants as faults;
-ghost use Rattle.rel_parse.specs.Reading.{Reader};
 ghost use Rattle.rel_parse.specs.Expressions.{expression_at};
 ghost use Rattle.rel_parse.specs.Formulas.{formula_at};
 ghost use Rattle.rel_parse.specs.Commands.{is_field_next, field_at, stored_at, call_at, value_at, named_at, atom_at, branches_at, loop_at, form_at, begins_atom, begins_command, command_at, ended_command_at, commands_at, block_at};

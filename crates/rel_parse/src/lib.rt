@@ -9,3 +9,4 @@ pub mod formula;
 pub mod relation;
 pub mod several;
 pub mod token;
+pub mod tree;

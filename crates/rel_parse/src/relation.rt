@@ -2,7 +2,7 @@
 
 ghost use Rattle.std.specs.Prelude.{◌≡◌};
 ghost use Rattle.rel_lang.specs.Syntax.{RelTrue, RelFalse};
-ghost use Rattle.rel_lang.specs.View.{side_of, expression_of, formula_of, rel_of};
+ghost use Rattle.rel_lang.specs.View.{side_of, expression_of, rel_of};
 ghost use Rattle.rel_lexer.specs.declared.Kind.TheVariants as kind;
 ghost use Rattle.rel_lexer.specs.declared.keywords.Keyword.TheVariants as word;
 ghost use Rattle.rel_parse.specs.Gives.{Gives};

@@ -2,7 +2,7 @@
 
 ghost use Rattle.std.specs.Prelude.{◌≡◌, ◌≢◌, length, IfErr};
 ghost use Rattle.rel_parse.specs.Gives.{Gives};
-ghost use Rattle.rel_parse.specs.Reading.{same_fixed, is_next, is_second, is_name_next, is_number_next, expect_at, name_at, literal_at, count_at, place_of};
+ghost use Rattle.rel_parse.specs.Reading.{same_fixed, is_next, is_second, is_name_next, is_number_next, expect_at, name_at, literal_at, place_of};
 ghost use Rattle.rel_parse.specs.declared.fault.Fault.TheVariants as faults;
 
 use crate::fault::Fault;
