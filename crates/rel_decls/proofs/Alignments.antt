@@ -1,25 +1,24 @@
 -- Weavings and alignments are read exactly.
-use Rattle.std.proofs.Common.{◌≡◌, ◌≢◌, ℕ, zero, suc, ◌+◌, ◌<◌, ◌≤◌, Bool, true, false, List, [], ◌∷◌, ◌++◌, length, ◌⊎◌, inl, inr, refl, sym, ap, ◌∙◌, subst, append_assoc, arith}
+use Rattle.std.proofs.Common.{◌≡◌, ◌≢◌, ℕ, zero, suc, ◌+◌, ◌<◌, Bool, true, false, List, [], ◌∷◌, ◌++◌, length, ◌⊎◌, inl, inr, refl, sym, ap, ◌∙◌, subst, arith}
 use Rattle.std.specs.Prelude.{codes}
 use Rattle.std.specs.List.{AllByRecursion}
-use Rattle.rel_lang.specs.Syntax.{Word, RelFormula, BiBlock, Act, ActSeq, ActSync, ActCall, ActIf, ActWhile, ActLink, ActNote, ActDrop, WeaveStep, Align, Given, Woven}
+use Rattle.rel_lang.specs.Syntax.{Word, RelFormula, Act, ActSeq, ActSync, ActCall, ActIf, ActWhile, ActLink, ActNote, ActDrop, WeaveStep, Align, Given, Woven}
 use Rattle.rel_lang.specs.Text.{Mark, word, named, counted, begins, braced, ended, repeated, show_rel, show_biblock, show_act, show_place_numbers, show_weave_step, show_align, IsShapedBiblock, IsShapedStep, IsShapedAlign}
 use Rattle.rel_lang.specs.Refusal.{Limits, GoesOn, Unexpected, IsOverAt}
 use Rattle.rel_lexer.specs.declared.Token.{Token}
 use Rattle.rel_lexer.specs.Tokens.{tokens_of}
-use Rattle.rel_lexer.specs.declared.Kind.{Kind}
 use Rattle.rel_lexer.specs.declared.Kind.TheVariants as kind
 use Rattle.rel_lexer.specs.declared.keywords.Keyword.TheVariants as keyword
 use Rattle.rel_lexer.specs.declared.symbols.Symbol.TheVariants as symbol
-use Rattle.rel_parse.specs.Reading.{Reading, Got, Refused, Reader, then_read, with_front, place_of, number_of, counted_as, is_next, is_number_next, expect_at, name_at, count_at, made, both, after, before, placed, many_at}
-use Rattle.rel_parse.specs.Firsts.{First, ANumber, This, begins_one}
+use Rattle.rel_parse.specs.Reading.{Reading, Got, Refused, Reader, then_read, with_front, place_of, number_of, counted_as, is_next, is_number_next, expect_at, name_at, count_at, made, both, after, placed}
+use Rattle.rel_parse.specs.Firsts.{First, ANumber, This}
 use Rattle.rel_parse.specs.Relations.{rel_at}
 use Rattle.rel_parse.specs.Biprograms.{biblock_at}
-use Rattle.rel_parse.proofs.Laws.{HaveKinds, Good, AreTold, Reads, Always, NeverBegins, AlwaysBegins, SomeBegins, ShapeAll, name_reads, count_reads, both_reads, after_reads, before_reads, placed_reads, many_reads, same_reads}
+use Rattle.rel_parse.proofs.Laws.{HaveKinds, Good, AreTold, Reads, Always, AlwaysBegins, SomeBegins, ShapeAll, name_reads, count_reads, both_reads, after_reads, before_reads, placed_reads, many_reads, same_reads}
 use Rattle.rel_parse.proofs.Along.{spelled_goes, told_join}
 use Rattle.rel_parse.proofs.Single.{is_fixed}
-use Rattle.rel_parse.proofs.Firsts.{BeginsAs, Part, Image, are_apart, choose_of, meaning, production, whole, always_begins, never_begins}
-use Rattle.rel_decls.specs.Alignments.{sides_at, seq_act_at, while_act_at, named_act_at, word_act_at, act_at, counts_at, numbers_at, step_at, ended_step_at, steps_at, align_at}
+use Rattle.rel_parse.proofs.Firsts.{BeginsAs, Part, Image, choose_of, meaning, production, whole, never_begins}
+use Rattle.rel_decls.specs.Alignments.{named_act_at, word_act_at, act_at, counts_at, numbers_at, step_at, ended_step_at, steps_at, align_at}
 use Rattle.rel_parse.proofs.Relations.{rel_reads}
 use Rattle.rel_parse.proofs.Biprograms.{biblock_reads}
 use Rattle.rel_decls.proofs.Declarations.{shaped}

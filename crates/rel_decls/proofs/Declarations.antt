@@ -1,5 +1,5 @@
 -- Types and declarations are read exactly.
-use Rattle.std.proofs.Common.{◌≡◌, ℕ, Bool, true, false, zero, suc, ◌+◌, ◌<◌, ◌≤◌, List, [], ◌∷◌, ◌++◌, length, ◌⊎◌, inl, inr, refl, sym, ap, ◌∙◌, subst, append_assoc, arith}
+use Rattle.std.proofs.Common.{◌≡◌, ℕ, true, ◌+◌, ◌<◌, List, [], ◌∷◌, ◌++◌, length, ◌⊎◌, inl, inr, refl, subst, arith}
 use Rattle.std.specs.Prelude.{codes}
 use Rattle.std.proofs.Math.Path.{fun_ext}
 use Rattle.std.specs.List.{AllByRecursion}
@@ -11,9 +11,9 @@ use Rattle.rel_lexer.specs.declared.Kind.TheVariants as kind
 use Rattle.rel_lexer.specs.declared.keywords.Keyword.TheVariants as keyword
 use Rattle.rel_lexer.specs.declared.symbols.Symbol.TheVariants as symbol
 use Rattle.rel_lexer.specs.declared.Token.{Token}
-use Rattle.rel_parse.specs.Reading.{Reading, Got, Refused, Reader, then_read, is_next, is_name_next, expect_at, name_at, made, both, after, before, many_at, listed_at}
+use Rattle.rel_parse.specs.Reading.{Reading, Got, Refused, Reader, then_read, is_next, is_name_next, expect_at, name_at, made, both, after, before, listed_at}
 use Rattle.rel_parse.specs.Firsts.{First, AName, This, begins_one}
-use Rattle.rel_parse.proofs.Laws.{Reads, Refuses, Always, NeverBegins, AlwaysBegins, SomeBegins, HaveKinds, Good, AreTold, IsFixed, IsShallow, ShapeAll, fixed_text, same_reads, named_reads, name_reads, word_reads, both_reads, after_reads, before_reads, many_reads, listed_reads}
+use Rattle.rel_parse.proofs.Laws.{Reads, Refuses, Always, NeverBegins, AlwaysBegins, SomeBegins, HaveKinds, Good, AreTold, IsFixed, ShapeAll, fixed_text, same_reads, named_reads, name_reads, word_reads, both_reads, after_reads, before_reads, many_reads, listed_reads}
 use Rattle.rel_parse.proofs.Single.{is_fixed}
 use Rattle.rel_parse.proofs.Firsts.{name_of_kind, BeginsAs, Part, Image, choose_of, meaning, production, whole, always_begins, never_begins, are_apart}
 use Rattle.rel_decls.specs.Declarations.{type_at, decl_at, ended_decl_at, decls_at, fields_at, params_at}

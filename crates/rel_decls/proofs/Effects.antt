@@ -1,22 +1,21 @@
 -- An effect is read exactly before what doesn't begin with `@`.
-use Rattle.std.proofs.Common.{◌≡◌, ℕ, zero, suc, ◌+◌, ◌<◌, ◌≤◌, Bool, true, false, not, ◌&&◌, List, [], ◌∷◌, ◌++◌, length, ◌⊎◌, inl, inr, refl, sym, ap, ◌∙◌, subst, arith}
+use Rattle.std.proofs.Common.{◌≡◌, ℕ, zero, suc, ◌+◌, ◌<◌, ◌≤◌, Bool, true, false, not, ◌&&◌, List, [], ◌∷◌, ◌++◌, length, ◌⊎◌, inl, inr, refl, sym, ap, subst, arith}
 use Rattle.std.specs.Prelude.{codes, if◌then◌else◌}
-use Rattle.std.specs.List.{AllByRecursion}
 use Rattle.std.proofs.lemmas.List.{length-append}
 use Rattle.rel_lang.specs.Syntax.{Word, Expression, Var, Num, Null, Empty, Alloc, Add, Sub, Mul, Field, Single, Union, Meet, Minus, Image as ImageOf, Filter, Old, Place, Effect, Global, Locations}
 use Rattle.rel_lang.specs.Text.{Mark, CanBeSaid, word, named, show_expression, show_place, show_effect}
-use Rattle.rel_lang.specs.Refusal.{Limits, IsWithin, GoesOn, AreWithin, Reason, Unexpected, TooDeep, TooMany, IsOverAt, reach}
+use Rattle.rel_lang.specs.Refusal.{Limits, GoesOn, AreWithin, Reason, Unexpected, TooDeep, TooMany, IsOverAt}
 use Rattle.rel_lexer.specs.declared.Token.{Token}
 use Rattle.rel_lexer.specs.Tokens.{tokens_of}
 use Rattle.rel_lexer.specs.declared.Kind.{Kind}
 use Rattle.rel_lexer.specs.declared.Kind.TheVariants as kind
 use Rattle.rel_lexer.specs.declared.keywords.Keyword.TheVariants as keyword
 use Rattle.rel_lexer.specs.declared.symbols.Symbol.TheVariants as symbol
-use Rattle.rel_parse.specs.Reading.{Reading, Got, Refused, Reader, then_read, is_next, is_second, is_name_next, is_name_kind, name_at, made, both, either}
-use Rattle.rel_parse.specs.Firsts.{First, AName, ANumber, This, begins_one}
-use Rattle.rel_parse.proofs.Laws.{HaveKinds, Spelled, CanAllBeSaid, Good, AllWithin, Refuses, IsSole, Reads, Always, NeverBegins, AreTold, name_reads, both_reads, same_reads}
+use Rattle.rel_parse.specs.Reading.{Reading, Got, Refused, Reader, then_read, is_next, is_name_kind, name_at, made, both, either}
+use Rattle.rel_parse.specs.Firsts.{First, AName, ANumber, This}
+use Rattle.rel_parse.proofs.Laws.{HaveKinds, Spelled, Good, AllWithin, Refuses, Reads, Always, NeverBegins, AreTold, name_reads, both_reads, same_reads}
 use Rattle.rel_parse.proofs.Along.{all_left, kinds_behind, spelled_length, goes_less, goes_out, told_join}
-use Rattle.rel_parse.proofs.Both.{bind_got, bind_refused, got_is, got_not_refused, compared}
+use Rattle.rel_parse.proofs.Both.{bind_got, bind_refused, got_is, got_not_refused}
 use Rattle.rel_parse.proofs.Single.{clash, fixed_is}
 use Rattle.rel_parse.proofs.Firsts.{BeginsAs, always_begins, never_begins}
 use Rattle.rel_decls.specs.Specifications.{is_variable_next, place_at, effect_at}

@@ -1,15 +1,15 @@
 -- A repetition up to the end of the tokens.
-use Rattle.std.proofs.Common.{◌≡◌, ℕ, zero, suc, ◌+◌, ◌<◌, ◌≤◌, Bool, true, false, if◌then◌else◌, List, [], ◌∷◌, ◌++◌, length, Option, Some, None, ◌⊎◌, inl, inr, refl, sym, ap, ◌∙◌, subst, arith}
+use Rattle.std.proofs.Common.{◌≡◌, ℕ, zero, suc, ◌+◌, ◌<◌, ◌≤◌, Bool, true, false, if◌then◌else◌, List, [], ◌∷◌, ◌++◌, length, Option, Some, None, inl, inr, refl, sym, ap, ◌∙◌, subst, arith}
 use Rattle.std.specs.List.{AllByRecursion}
 use Rattle.std.proofs.lemmas.List.{length-append}
-use Rattle.rel_lang.specs.Text.{Fixed, Says, CanBeSaid, Mark, word, element, repeated, Match}
+use Rattle.rel_lang.specs.Text.{Says, CanBeSaid, Mark, word, element, repeated, Match}
 use Rattle.rel_lang.specs.Refusal.{Limits, IsWithin, IsBefore, GoesOn, AreWithin, Reason, Unexpected, TooDeep, TooMany, IsOver, IsOverAt, reach}
 use Rattle.rel_lexer.specs.declared.Token.{Token}
 use Rattle.rel_lexer.specs.declared.Kind.{Kind}
 use Rattle.rel_lexer.specs.Tokens.{tokens_of}
-use Rattle.rel_parse.specs.Reading.{Reading, Got, Refused, Reader, then_read, with_first, expect_at, both, many_at}
-use Rattle.rel_parse.proofs.Laws.{HaveKinds, Spelled, CanAllBeSaid, IsToldBy, AreTold, Good, AllWithin, Refuses, Reads, Always, NeverBegins, AlwaysBegins, SomeBegins, fixed_text, IsFixed, IsShallow, ShapeAll, word_reads, many_reads, element_reads}
-use Rattle.rel_parse.proofs.Along.{all_join, all_left, all_right, kinds_behind, spelled_length, spelled_goes, spelled_one, spelled_join, goes_length, goes_less, goes_in, goes_out, within_less, within_all, within_out, over_in, told_join, le_reach}
+use Rattle.rel_parse.specs.Reading.{Reading, Got, Refused, Reader, then_read, with_first, many_at}
+use Rattle.rel_parse.proofs.Laws.{HaveKinds, Spelled, CanAllBeSaid, IsToldBy, AreTold, Good, AllWithin, Refuses, Reads, Always, fixed_text, IsShallow, ShapeAll, element_reads}
+use Rattle.rel_parse.proofs.Along.{all_join, all_left, all_right, kinds_behind, spelled_length, spelled_goes, spelled_one, spelled_join, goes_length, goes_less, goes_in, goes_out, within_less, within_all, within_out, told_join, le_reach}
 use Rattle.rel_parse.proofs.Both.{bind_got, bind_refused, got_is, got_not_refused, compared}
 use Rattle.rel_parse.proofs.Single.{clash, refused_is}
 

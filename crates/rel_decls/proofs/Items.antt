@@ -1,10 +1,9 @@
 -- Items are read exactly.
-use Rattle.std.proofs.Common.{◌≡◌, ℕ, zero, suc, ◌+◌, ◌<◌, ◌≤◌, Bool, true, false, List, [], ◌∷◌, ◌++◌, length, ◌⊎◌, inl, inr, refl, sym, ap, ◌∙◌, subst, append_assoc, arith}
+use Rattle.std.proofs.Common.{◌≡◌, ℕ, ◌+◌, ◌<◌, true, List, [], ◌∷◌, ◌++◌, length, ◌⊎◌, inl, inr, refl, sym, ap, subst, append_assoc, arith}
 use Rattle.std.specs.Prelude.{codes}
-use Rattle.std.proofs.Math.Path.{fun_ext}
 use Rattle.std.specs.List.{AllByRecursion}
 use Rattle.std.proofs.lemmas.Bool.{or_cases}
-use Rattle.rel_lang.specs.Syntax.{Word, Decl, Place, Effect, Clause, RelClause, Body, Proc, Sig, ClassItem, Interface, Module, UnitItem, Client, Judgement, ModulePair, Align, Item, OfClass, OfInterface, OfModule, OfUnit, OfClient, OfJudgement, OfPair}
+use Rattle.rel_lang.specs.Syntax.{Word, Decl, Place, Effect, Clause, RelClause, Body, Proc, Sig, Interface, Module, Client, Align, Item, OfClass, OfInterface, OfModule, OfUnit, OfClient, OfJudgement, OfPair}
 use Rattle.rel_lang.specs.Text.{Mark, word, named, begins, braced, ended, repeated, listed, show_decl, show_place, show_globals, show_writes, show_clause, show_rel_clause, show_boundary, show_sig, show_proc, show_body, show_align, IsShapedAlign, show_class, show_interface, show_method, show_module, show_unit, show_client, show_subject, show_judgement, show_pair_method, show_pair, show_item, IsShapedItem}
 use Rattle.rel_lang.specs.Refusal.{Limits, limits, GoesOn}
 use Rattle.rel_lexer.specs.declared.Token.{Token}
@@ -13,16 +12,16 @@ use Rattle.rel_lexer.specs.declared.Kind.{Kind}
 use Rattle.rel_lexer.specs.declared.Kind.TheVariants as kind
 use Rattle.rel_lexer.specs.declared.keywords.Keyword.TheVariants as keyword
 use Rattle.rel_lexer.specs.declared.symbols.Symbol.TheVariants as symbol
-use Rattle.rel_parse.specs.Reading.{Reader, is_next, expect_at, name_at, made, both, after, before, placed, many_at}
-use Rattle.rel_parse.specs.Firsts.{First, AName, This, begins_one}
-use Rattle.rel_parse.proofs.Laws.{Reads, Always, Good, AreTold, HaveKinds, NeverBegins, AlwaysBegins, SomeBegins, ShapeAll, IsFixed, IsShallow, fixed_text, name_reads, word_reads, both_reads, after_reads, before_reads, placed_reads, many_reads}
+use Rattle.rel_parse.specs.Reading.{Reader, is_next, name_at, both, after, before}
+use Rattle.rel_parse.specs.Firsts.{First, This}
+use Rattle.rel_parse.proofs.Laws.{Reads, Always, Good, AreTold, HaveKinds, NeverBegins, AlwaysBegins, SomeBegins, ShapeAll, IsFixed, IsShallow, fixed_text, name_reads, both_reads, after_reads, before_reads, placed_reads}
 use Rattle.rel_parse.proofs.Single.{is_fixed}
-use Rattle.rel_parse.proofs.Firsts.{BeginsAs, Part, Image, are_apart, choose_of, production, always_begins, never_begins}
-use Rattle.rel_decls.specs.Procedures.{Content, body_from, content_at, proc_at, sig_at}
-use Rattle.rel_decls.specs.Specifications.{places_at, writes_at, clause_at, rel_clause_at}
+use Rattle.rel_parse.proofs.Firsts.{BeginsAs, Image, are_apart, choose_of, production, always_begins, never_begins}
+use Rattle.rel_decls.specs.Procedures.{Content, body_from, proc_at, sig_at}
+use Rattle.rel_decls.specs.Specifications.{places_at, clause_at, rel_clause_at}
 use Rattle.rel_decls.specs.Alignments.{align_at}
 use Rattle.rel_decls.specs.Items.{opened, closed, globals_at, class_at, boundary_at, init_at, sigs_at, interface_from, interface_at, init_body_at, method_at, invariant_at, methods_at, titled_at, module_from, module_at, procs_at, program_at, unit_at, client_at, subject_at, about_at, judgement_from, judgement_at, coupling_at, pair_init_at, pair_method_at, pair_methods_at, pair_from, pair_at, other_item_at, item_at, begins_item}
-use Rattle.rel_decls.proofs.Declarations.{remade, shaped, closed_reads, word_always, word_never, all_always, decls_reads, fields_reads}
+use Rattle.rel_decls.proofs.Declarations.{remade, shaped, word_never, all_always, decls_reads, fields_reads}
 use Rattle.rel_decls.proofs.Specifications.{close_brace, show_close, closed_many, places_reads, clause_reads, rel_clause_reads}
 use Rattle.rel_decls.proofs.Writes.{writes_reads}
 use Rattle.rel_decls.proofs.Procedures.{show_content, ShapeContent, content_reads, proc_reads, sig_reads}

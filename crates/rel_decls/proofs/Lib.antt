@@ -8,3 +8,6 @@ pub mod Ends
 pub mod Items
 pub mod Places
 pub mod Standing
+pub mod OneFault
+pub mod Kinded
+pub mod OneBundle

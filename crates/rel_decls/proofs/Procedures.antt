@@ -1,24 +1,23 @@
 -- Bodies, procedures and methods are read exactly.
-use Rattle.std.proofs.Common.{◌≡◌, ℕ, zero, suc, ◌+◌, ◌<◌, ◌≤◌, Bool, true, false, List, [], ◌∷◌, ◌++◌, length, inl, inr, refl, sym, ap, ◌∙◌, subst, append_assoc, arith}
+use Rattle.std.proofs.Common.{◌≡◌, ◌+◌, ◌<◌, List, [], ◌∷◌, ◌++◌, refl, sym, ap, subst, append_assoc, arith}
 use Rattle.std.specs.Prelude.{codes}
 use Rattle.std.proofs.Math.Path.{fun_ext}
 use Rattle.std.specs.List.{AllByRecursion}
-use Rattle.rel_lang.specs.Syntax.{Word, Ty, Block, Decl, Spec, Body, Proc, Sig}
+use Rattle.rel_lang.specs.Syntax.{Word, Ty, Block, Decl, Spec, Proc}
 use Rattle.rel_lang.specs.Text.{Mark, word, named, begins, braced, show_type, show_locals, show_commands, show_params, show_head, show_clause, show_spec, show_proc, show_sig}
 use Rattle.rel_lang.specs.Refusal.{Limits}
-use Rattle.rel_lexer.specs.declared.Kind.{Kind}
 use Rattle.rel_lexer.specs.declared.Kind.TheVariants as kind
 use Rattle.rel_lexer.specs.declared.keywords.Keyword.TheVariants as keyword
 use Rattle.rel_lexer.specs.declared.symbols.Symbol.TheVariants as symbol
-use Rattle.rel_parse.specs.Reading.{Reader, is_next, expect_at, name_at, made, both, after, before, placed}
-use Rattle.rel_parse.specs.Firsts.{First, AName, This}
+use Rattle.rel_parse.specs.Reading.{is_next, name_at, before}
+use Rattle.rel_parse.specs.Firsts.{This}
 use Rattle.rel_parse.specs.Commands.{commands_at}
-use Rattle.rel_parse.proofs.Laws.{Reads, Always, NeverBegins, ShapeAll, name_reads, word_reads, both_reads, after_reads, before_reads, placed_reads}
+use Rattle.rel_parse.proofs.Laws.{Reads, Always, NeverBegins, name_reads, both_reads, after_reads, before_reads, placed_reads}
 use Rattle.rel_decls.specs.Specifications.{clause_at, spec_at}
-use Rattle.rel_decls.specs.Procedures.{Content, content_at, body_from, Head, head_at, proc_from, proc_at, sig_at}
+use Rattle.rel_decls.specs.Procedures.{Content, content_at, Head, head_at, proc_from, proc_at, sig_at}
 use Rattle.rel_parse.proofs.Commands.{to_brace_reads, to_brace_never}
-use Rattle.rel_decls.proofs.Declarations.{remade, closed_reads, word_never, all_always, type_reads, decls_reads, params_reads}
-use Rattle.rel_decls.proofs.Specifications.{close_brace, show_close, clause_reads}
+use Rattle.rel_decls.proofs.Declarations.{remade, all_always, type_reads, decls_reads, params_reads}
+use Rattle.rel_decls.proofs.Specifications.{close_brace, clause_reads}
 use Rattle.rel_decls.proofs.Writes.{writes_reads}
 
 module _ (l : Limits) (deep : 0 < l.deepest) (wide : 0 < l.most) where

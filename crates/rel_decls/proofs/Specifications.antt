@@ -1,28 +1,28 @@
 -- Places, clauses and specifications are read exactly.
-use Rattle.std.proofs.Common.{◌≡◌, ℕ, zero, suc, ◌+◌, ◌<◌, ◌≤◌, Bool, true, false, not, ◌&&◌, List, [], ◌∷◌, ◌++◌, length, inl, inr, refl, sym, ap, ◌∙◌, subst, append_assoc, arith}
+use Rattle.std.proofs.Common.{◌≡◌, ◌+◌, true, List, [], ◌∷◌, ◌++◌, inl, refl, arith}
 use Rattle.std.specs.Prelude.{codes}
 use Rattle.std.specs.List.{AllByRecursion}
-use Rattle.rel_lang.specs.Syntax.{Word, Expression, Formula, RelFormula, Place, Effect, Global, Locations, Clause, RelClause, Spec}
-use Rattle.rel_lang.specs.Text.{Mark, CanBeSaid, word, named, repeated, listed, show_expression, show_formula, show_rel, show_place, show_effect, show_writes, show_clause, show_rel_clause, show_spec}
+use Rattle.rel_lang.specs.Syntax.{Word, Expression, Place}
+use Rattle.rel_lang.specs.Text.{Mark, CanBeSaid, word, named, repeated, listed, show_expression, show_formula, show_rel, show_place, show_clause, show_rel_clause}
 use Rattle.rel_lang.specs.Refusal.{Limits}
 use Rattle.rel_lexer.specs.Tokens.{tokens_of}
 use Rattle.rel_lexer.specs.declared.Kind.{Kind}
 use Rattle.rel_lexer.specs.declared.Kind.TheVariants as kind
 use Rattle.rel_lexer.specs.declared.keywords.Keyword.TheVariants as keyword
 use Rattle.rel_lexer.specs.declared.symbols.Symbol.TheVariants as symbol
-use Rattle.rel_parse.specs.Reading.{Reader, is_next, expect_at, name_at, made, both, after, before, placed, many_at, listed_at}
-use Rattle.rel_parse.specs.Firsts.{First, AName, This}
+use Rattle.rel_parse.specs.Reading.{Reader, is_next, expect_at, name_at, before, many_at, listed_at}
+use Rattle.rel_parse.specs.Firsts.{This}
 use Rattle.rel_parse.specs.Expressions.{expression_at}
 use Rattle.rel_parse.specs.Formulas.{formula_at}
 use Rattle.rel_parse.specs.Relations.{rel_at}
-use Rattle.rel_parse.proofs.Laws.{Reads, Always, NeverBegins, SomeBegins, ShapeAll, IsFixed, IsShallow, name_reads, word_reads, both_reads, after_reads, placed_reads, many_reads, listed_reads}
+use Rattle.rel_parse.proofs.Laws.{Reads, Always, SomeBegins, IsFixed, IsShallow, name_reads, word_reads, both_reads, after_reads, placed_reads, many_reads, listed_reads}
 use Rattle.rel_parse.proofs.Firsts.{BeginsAs, are_apart}
 use Rattle.rel_parse.proofs.Along.{all_left, goes_out}
-use Rattle.rel_decls.specs.Specifications.{place_at, effect_at, places_at, writes_at, clause_at, rel_clause_at, spec_at}
+use Rattle.rel_decls.specs.Specifications.{place_at, places_at, clause_at, rel_clause_at}
 use Rattle.rel_parse.proofs.Expressions.{expression_reads, expression_never}
 use Rattle.rel_parse.proofs.Formulas.{formula_reads}
 use Rattle.rel_parse.proofs.Relations.{rel_reads}
-use Rattle.rel_decls.proofs.Declarations.{remade, closed_reads, word_always, word_never, all_always}
+use Rattle.rel_decls.proofs.Declarations.{remade, closed_reads, word_always, word_never}
 
 abbrev pub close_brace : Kind
 close_brace = kind.Symbol symbol.CloseBrace

@@ -1,5 +1,5 @@
 -- A text stands for the bundle that its tokens are read as, and for no other; and what is refused is refused where no bundle goes on.
-use Rattle.std.proofs.Common.{◌≡◌, ℕ, zero, suc, ◌+◌, ◌-◌, ◌<◌, ◌≤◌, Bool, true, false, List, [], ◌∷◌, ◌++◌, length, All, Some, None, Ok, Err, ◌⊎◌, inl, inr, refl, sym, ap, subst, ◌∙◌, arith}
+use Rattle.std.proofs.Common.{◌≡◌, ℕ, suc, ◌-◌, ◌<◌, Bool, true, false, List, [], ◌∷◌, length, All, Some, Ok, ◌⊎◌, inl, inr, refl, sym, ap, subst, ◌∙◌, arith}
 use Rattle.std.specs.Prelude.{codes}
 use Rattle.std.specs.List.{AllByRecursion}
 use Rattle.std.specs.Str.{IsUtf8}
@@ -7,9 +7,9 @@ use Rattle.std.proofs.lemmas.List.Elements.{recursion_from_All}
 use Rattle.std.proofs.lemmas.Slice.Eq.{bytes_eq-Decides}
 use Rattle.std.specs.Result.{result_ok}
 use Rattle.rel_lang.specs.Syntax.{Item, Bundle}
-use Rattle.rel_lang.specs.Tokens.{Token as Piece, lexed, tokens}
-use Rattle.rel_lang.specs.Text.{Mark, CanBeSaid, Match, word, repeated, show_item, show_tokens, IsShapedItem, IsPrintable, StandsFor}
-use Rattle.rel_lang.specs.Refusal.{Limits, limits, IsWithin, GoesOn, AreWithin, Fits, Reason, Unexpected, TooDeep, TooMany, IsOverAt, reach, IsRefused, place_behind}
+use Rattle.rel_lang.specs.Tokens.{lexed, tokens}
+use Rattle.rel_lang.specs.Text.{Match, word, repeated, show_item, show_tokens, IsShapedItem, IsPrintable, StandsFor}
+use Rattle.rel_lang.specs.Refusal.{Limits, limits, IsWithin, Fits, Reason, Unexpected, TooDeep, TooMany, IsRefused, place_behind}
 use Rattle.rel_lexer.specs.declared.Token.{Token}
 use Rattle.rel_lexer.specs.declared.Kind.{Kind}
 use Rattle.rel_lexer.specs.declared.Kind.TheVariants as kind
@@ -19,14 +19,13 @@ use Rattle.rel_lexer.specs.Tokens.{tokens_of, HasKind}
 use Rattle.rel_parse.specs.declared.fault.Fault.{Fault}
 use Rattle.rel_parse.specs.declared.fault.Fault.TheVariants as reading
 use Rattle.rel_parse.specs.Gives.{Fails}
-use Rattle.rel_parse.specs.Reading.{Reading, Got, Refused, then_read, same_fixed, expect_at, both, many_at, unexpected}
-use Rattle.rel_parse.proofs.Laws.{HaveKinds, Spelled, CanAllBeSaid, AreTold, Good, Refuses, Reads, Always, ShapeAll, fixed_text, IsFixed, word_reads, many_reads}
-use Rattle.rel_parse.proofs.Along.{goes_length}
+use Rattle.rel_parse.specs.Reading.{Reading, Got, Refused, then_read, same_fixed, expect_at, both, many_at}
+use Rattle.rel_parse.proofs.Laws.{HaveKinds, Spelled, Always, fixed_text, IsFixed, word_reads, many_reads}
 use Rattle.rel_parse.proofs.Both.{bind_got, bind_refused, got_is, got_not_refused}
 use Rattle.rel_parse.proofs.Single.{refused_is}
 use Rattle.rel_decls.specs.Items.{begins_item, item_at, items_at, end_at, bundle_at}
 use Rattle.rel_decls.specs.Faults.{IsRefusedAt, HasFault, placed_fault}
-use Rattle.rel_decls.proofs.Ends.{Goods, Found, Stops, many_found, same_lists, never_short, stops_of, match_spelled, spelled_match, all_told}
+use Rattle.rel_decls.proofs.Ends.{Goods, Stops, many_found, same_lists, never_short, stops_of, match_spelled, spelled_match, all_told}
 use Rattle.rel_decls.proofs.Items.{item_reads, item_shallow, item_always, item_some, item_never}
 
 abbrev close : Kind
@@ -128,10 +127,10 @@ module _ (l : Limits) (deep : 0 < l.deepest) (wide : 0 < l.most) where
         | inr s ↦ absurd (got_not_refused s.3)
       ]
 
-some_depth : 0 < limits.deepest
+pub some_depth : 0 < limits.deepest
 some_depth = omega arith
 
-some_width : 0 < limits.most
+pub some_width : 0 < limits.most
 some_width = omega arith
 
 -- ---- the text

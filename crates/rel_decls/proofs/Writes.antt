@@ -1,24 +1,24 @@
 -- What may be written is read exactly.
-use Rattle.std.proofs.Common.{◌≡◌, ℕ, zero, suc, ◌+◌, ◌<◌, ◌≤◌, Bool, true, false, if◌then◌else◌, List, [], ◌∷◌, ◌++◌, length, ◌⊎◌, inl, inr, refl, sym, ap, ◌∙◌, subst, append_assoc, arith}
+use Rattle.std.proofs.Common.{◌≡◌, ℕ, zero, suc, ◌+◌, ◌<◌, true, false, if◌then◌else◌, List, [], ◌∷◌, ◌++◌, length, ◌⊎◌, inl, inr, refl, sym, subst, append_assoc, arith}
 use Rattle.std.specs.Prelude.{codes}
 use Rattle.std.proofs.Math.Path.{fun_ext}
 use Rattle.std.specs.List.{AllByRecursion}
 use Rattle.rel_lang.specs.Syntax.{Word, Effect, Global, Locations}
 use Rattle.rel_lang.specs.Text.{Mark, CanBeSaid, word, named, element, behind, repeated, listed, show_expression, show_effect, show_writes}
-use Rattle.rel_lang.specs.Refusal.{Limits, GoesOn, Reason, TooMany}
+use Rattle.rel_lang.specs.Refusal.{Limits, TooMany}
 use Rattle.rel_lexer.specs.declared.Token.{Token}
 use Rattle.rel_lexer.specs.Tokens.{tokens_of}
 use Rattle.rel_lexer.specs.declared.Kind.{Kind}
 use Rattle.rel_lexer.specs.declared.Kind.TheVariants as kind
 use Rattle.rel_lexer.specs.declared.keywords.Keyword.TheVariants as keyword
 use Rattle.rel_lexer.specs.declared.symbols.Symbol.TheVariants as symbol
-use Rattle.rel_parse.specs.Reading.{Reading, Got, Refused, Reader, then_read, unexpected, is_next, expect_at, made, both, after, before, either, with_first, many_at, listed_at}
-use Rattle.rel_parse.specs.Firsts.{First, AName, This, begins_one}
-use Rattle.rel_parse.proofs.Laws.{HaveKinds, Good, AreTold, Reads, Always, NeverBegins, AlwaysBegins, SomeBegins, ShapeAll, ShapeEither, show_either, name_reads, word_reads, after_reads, either_reads, element_reads, named_reads, same_reads}
+use Rattle.rel_parse.specs.Reading.{Reading, Got, Refused, Reader, then_read, unexpected, is_next, expect_at, made, both, after, either, with_first, many_at, listed_at}
+use Rattle.rel_parse.specs.Firsts.{AName, This, begins_one}
+use Rattle.rel_parse.proofs.Laws.{Good, AreTold, Reads, Always, NeverBegins, AlwaysBegins, SomeBegins, ShapeAll, ShapeEither, show_either, name_reads, word_reads, after_reads, either_reads, element_reads, named_reads, same_reads}
 use Rattle.rel_parse.proofs.Along.{all_left, goes_out, told_join}
 use Rattle.rel_parse.proofs.First.{over_at, over_reads}
 use Rattle.rel_parse.proofs.Single.{is_fixed}
-use Rattle.rel_parse.proofs.Firsts.{BeginsAs, always_begins, never_begins, are_apart}
+use Rattle.rel_parse.proofs.Firsts.{always_begins, never_begins, are_apart}
 use Rattle.rel_decls.specs.Specifications.{effect_at, writes_at}
 use Rattle.rel_parse.proofs.Expressions.{expression_reads, expression_never}
 use Rattle.rel_decls.proofs.Declarations.{closed_reads, word_always, word_never}

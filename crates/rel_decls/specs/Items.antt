@@ -3,15 +3,14 @@ use Rattle.std.specs.Prelude.{ℕ, Bool, ◌||◌, List, [], ◌∷◌}
 use Rattle.rel_lang.specs.Syntax.{Word, Decl, Place, Effect, Clause, RelClause, Body, Proc, Sig, ClassItem, Interface, Module, UnitItem, Client, Judgement, ModulePair, Align, Item, OfClass, OfInterface, OfModule, OfUnit, OfClient, OfJudgement, OfPair, Bundle}
 use Rattle.rel_lang.specs.Refusal.{Limits}
 use Rattle.rel_lexer.specs.declared.Token.{Token}
-use Rattle.rel_lexer.specs.declared.Kind.{Kind}
 use Rattle.rel_lexer.specs.declared.Kind.TheVariants as kind
 use Rattle.rel_lexer.specs.declared.keywords.Keyword.TheVariants as word
 use Rattle.rel_lexer.specs.declared.symbols.Symbol.TheVariants as symbol
 use Rattle.rel_parse.specs.Reading.{Reader, Got, is_next, name_at, made, both, after, before, placed, either, many_at, unexpected}
 use Rattle.rel_decls.specs.Declarations.{decls_at, fields_at}
 use Rattle.rel_decls.specs.Specifications.{places_at, writes_at, clause_at, rel_clause_at}
-use Rattle.rel_decls.specs.Procedures.{Content, body_from, content_at, proc_at, sig_at}
-use Rattle.rel_decls.specs.Alignments.{sides_at, align_at}
+use Rattle.rel_decls.specs.Procedures.{body_from, content_at, proc_at, sig_at}
+use Rattle.rel_decls.specs.Alignments.{align_at}
 
 -- between braces
 abbrev pub opened : {A : Type 0} → Reader A → Reader A

@@ -4,3 +4,4 @@ pub mod Procedures
 pub mod Alignments
 pub mod Items
 pub mod Faults
+pub mod Laws

@@ -1,5 +1,5 @@
 -- How effects, clauses and specifications are read.
-use Rattle.std.specs.Prelude.{ℕ, Bool, not, ◌&&◌, List}
+use Rattle.std.specs.Prelude.{Bool, not, ◌&&◌, List}
 use Rattle.rel_lang.specs.Syntax.{Place, Effect, Global, Locations, Clause, RelClause, Spec}
 use Rattle.rel_lang.specs.Refusal.{Limits}
 use Rattle.rel_lexer.specs.declared.Token.{Token}

@@ -8,7 +8,7 @@ ghost use Rattle.rel_lexer.specs.declared.Kind.TheVariants as kind;
 ghost use Rattle.rel_lexer.specs.declared.keywords.Keyword.TheVariants as word;
 ghost use Rattle.rel_lexer.specs.declared.symbols.Symbol.TheVariants as symbol;
 ghost use Rattle.rel_parse.specs.Gives.{Gives};
-ghost use Rattle.rel_parse.specs.Reading.{is_next, is_number_next, name_at, counted_as, count_at, made, after, before, many_at};
+ghost use Rattle.rel_parse.specs.Reading.{is_next, is_number_next, name_at, counted_as, count_at, made, after};
 ghost use Rattle.rel_parse.specs.Relations.{rel_at};
 ghost use Rattle.rel_parse.specs.Biprograms.{biblock_at};
 ghost use Rattle.rel_decls.specs.Alignments.{sides_at, seq_act_at, while_act_at, named_act_at, word_act_at, is_named_act_next, act_at, numbers_at, step_at, ended_step_at, steps_at, align_at};

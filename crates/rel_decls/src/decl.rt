@@ -1,10 +1,9 @@
 //! Reads types and declarations.
 
-ghost use Rattle.std.specs.Prelude.{◌≡◌, map};
+ghost use Rattle.std.specs.Prelude.{map};
 ghost use Rattle.rel_lang.specs.Refusal.{limits};
 ghost use Rattle.rel_lang.specs.Syntax as syntax;
 ghost use Rattle.rel_lang.specs.View.{type_of, decl_of};
-ghost use Rattle.rel_lexer.specs.declared.Kind.{Kind as SpecKind};
 ghost use Rattle.rel_parse.specs.Gives.{Gives};
 ghost use Rattle.rel_parse.specs.Reading.{is_next, is_name_next, after};
 ghost use Rattle.rel_decls.specs.Declarations.{type_at, decl_at, ended_decl_at, decls_at, fields_at, params_at};

@@ -10,7 +10,7 @@ pub enum LexKind {
 /// Why a text was not read, and the byte where.
 #[derive(Clone, Copy, Debug, PartialEq, Eq, Drop)]
 pub enum TextFault {
-    /// The first byte with which no character goes on.
+    /// The byte behind the longest front that is UTF-8.
     NotUtf8(u32),
     Lexical(LexKind, u32),
     /// The first token with which no bundle goes on, or the length of the text where its end is refused.

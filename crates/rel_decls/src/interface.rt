@@ -1,6 +1,6 @@
 //! Reads interfaces.
 
-ghost use Rattle.std.specs.Prelude.{◌≡◌, map};
+ghost use Rattle.std.specs.Prelude.{map};
 ghost use Rattle.rel_lang.specs.Refusal.{limits};
 ghost use Rattle.rel_lang.specs.View.{place_of, effect_of, clause_of, interface_of};
 ghost use Rattle.rel_parse.specs.Gives.{Gives};

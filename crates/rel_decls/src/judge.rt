@@ -1,6 +1,6 @@
 //! Reads judgements and pairs of modules.
 
-ghost use Rattle.std.specs.Prelude.{◌≡◌, ℕ, List as Listed, map};
+ghost use Rattle.std.specs.Prelude.{ℕ, map};
 ghost use Rattle.rel_lang.specs.Refusal.{limits};
 ghost use Rattle.rel_lang.specs.Syntax as syntax;
 ghost use Rattle.rel_lang.specs.View.{rel_clause_of, align_of, judgement_of, pair_of};

@@ -1,14 +1,15 @@
 //! Reads a text into the bundle that it stands for.
 #![tactic(auto)]
 
-ghost use Rattle.std.specs.Prelude.{◌≡◌, ℕ, ◌-◌, ◌^◌, ◌<◌, List as Listed, length, IfOk, IfErr};
+ghost use Rattle.std.specs.Prelude.{◌≡◌, ◌≢◌, ℕ, ◌-◌, ◌^◌, ◌<◌, List as Listed, length, IfOk, IfErr};
 ghost use Rattle.std.specs.Str.{IsUtf8};
 ghost use Rattle.rel_lang.specs.Syntax as syntax;
 ghost use Rattle.rel_lang.specs.Refusal.{Fits, place_behind};
 ghost use Rattle.rel_lang.specs.Text.{StandsFor};
 ghost use Rattle.rel_lang.specs.View.{bundle_of};
 ghost use Rattle.rel_lexer.specs.Tokens.{tokens_of, IsFirstFault};
-ghost use Rattle.rel_decls.specs.Faults.{HasFault, placed_fault};
+ghost use Rattle.rel_decls.specs.Faults.{HasFault, StandsForNone, IsTold, placed_fault};
+ghost use Rattle.rel_decls.specs.declared.fault.TextFault.TheVariants as faults;
 
 mod align;
 mod decl;
@@ -16,6 +17,7 @@ mod fault;
 mod interface;
 mod item;
 mod judge;
+pub mod laws;
 mod module;
 mod proc;
 mod spec;
@@ -39,6 +41,9 @@ pub fn parse_bundle(alloc: Global, text: &[u8]) -> Result<Bundle, TextFault>
     // A text stands for one bundle at most.
     ensures only { (b : syntax.Bundle) → StandsFor text.now b → IfOk result (λ c. bundle_of c ≡ b) }
     ensures refused { IfErr result (λ e. HasFault text.now e) }
+    ensures missed { IfErr result (λ e. e ≢ faults.Memory → StandsForNone text.now) }
+    // A text has one fault at most.
+    ensures told { IsTold text.now result }
 {
     match from_utf8(text) {
         Ok(text) => read(alloc, text),

@@ -1,6 +1,6 @@
 //! Reads modules.
 
-ghost use Rattle.std.specs.Prelude.{◌≡◌, List as Listed, map};
+ghost use Rattle.std.specs.Prelude.{map};
 ghost use Rattle.rel_lang.specs.Refusal.{limits};
 ghost use Rattle.rel_lang.specs.Syntax as syntax;
 ghost use Rattle.rel_lang.specs.View.{clause_of, body_of, module_of};

@@ -1,6 +1,6 @@
 //! Reads bodies, procedures and methods of interfaces.
 
-ghost use Rattle.std.specs.Prelude.{◌≡◌, map};
+ghost use Rattle.std.specs.Prelude.{map};
 ghost use Rattle.rel_lang.specs.Refusal.{limits};
 ghost use Rattle.rel_lang.specs.Syntax as syntax;
 ghost use Rattle.rel_lang.specs.View.{type_of, decl_of, block_of, proc_of, sig_of};

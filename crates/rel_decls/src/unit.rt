@@ -1,6 +1,6 @@
 //! Reads units and clients.
 
-ghost use Rattle.std.specs.Prelude.{◌≡◌, map};
+ghost use Rattle.std.specs.Prelude.{map};
 ghost use Rattle.rel_lang.specs.Refusal.{limits};
 ghost use Rattle.rel_lang.specs.View.{decl_of, proc_of, unit_of, client_of};
 ghost use Rattle.rel_parse.specs.Gives.{Gives};

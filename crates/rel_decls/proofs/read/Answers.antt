@@ -1,7 +1,6 @@
-use Rattle.std.proofs.Common.{◌≡◌, List, length, All, Ok, subst, sym}
+use Rattle.std.proofs.Common.{◌≡◌, length, All, Ok, subst, sym}
 use Rattle.rel_lang.specs.Tokens.{lexed}
 use Rattle.rel_lang.specs.Refusal.{limits}
-use Rattle.rel_lexer.specs.declared.Token.{Token}
 use Rattle.rel_lexer.specs.Tokens.{tokens_of, HasKind}
 use Rattle.rel_parse.specs.Gives.{Fails}
 use Rattle.rel_decls.specs.Faults.{HasFault, placed_fault}

@@ -1,4 +1,4 @@
-use Rattle.std.proofs.Common.{◌≡◌, ◌<◌, ◌≤◌, length, get_or, sym, ap, subst, ◌∙◌, arith, rules}
+use Rattle.std.proofs.Common.{◌<◌, ◌≤◌, length, sym, ap, ◌∙◌, rules}
 use Rattle.rel_lang.specs.Refusal.{place_behind}
 use Rattle.rel_lexer.specs.Tokens.{tokens_of}
 use Rattle.rel_decls.proofs.Places.{place_held, place_past}
