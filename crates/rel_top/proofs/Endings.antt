@@ -5,34 +5,33 @@ use Rattle.std.proofs.lemmas.List.{take_more, take-append-le}
 use Rattle.std.proofs.lemmas.List.Folds.{concat-append}
 use Rattle.std.specs.List.{concat}
 use Rattle.rel_io.specs.Told.{Told, untold, absent, bytes, IsToldAs, Rose, Appends, AppendsFront}
-use Rattle.straight_lang.specs.Syntax.{Bundle}
-use Rattle.straight_lang.specs.TrueBundle.{IsTrueBundle, StandsForTrueBundle}
+use Rattle.rel_lang.specs.Syntax.{Bundle}
+use Rattle.rel_lang.specs.TrueBundle.{IsTrueBundle, StandsForTrueBundle}
 use Rattle.rel_top.specs.declared.check.Answer.{Answer}
 use Rattle.rel_top.specs.declared.status.Status.{Status}
 use Rattle.rel_top.specs.declared.status.Status.TheVariants.{Yes, FileFault, OutputFault, Memory}
-use Rattle.rel_top.specs.Ending.{Words, check_words, Reply, usage, unread, answer, HasReply, status_of, lines_of, Output, output, IsPrinted, IsCutOff, IsSilent, EndsWith, Ends, IsDecided}
-use Rattle.straight_linking.specs.Form.{Parts, HasForm}
+use Rattle.rel_top.specs.Ending.{Words, Reply, usage, unread, answer, IsUnread, HasReply, status_of, lines_of, Output, output, IsPrinted, IsCutOff, IsSilent, EndsWith, Ends, AreTold, IsDecided}
+use Rattle.rel_linking.specs.Form.{Parts, IsStraight}
 use Rattle.rel_top.specs.Headline.{WhereTold, IsYes}
-use Rattle.rel_top.specs.Judged.{IsOutcomeAnswer, IsProofAnswer, IsPartsAnswer, IsBuiltOnce, IsTextAnswer, IsCheckAnswer, IsReply, IsWordsAnswer, IsPrintedAs, answer_of}
-use Rattle.rel_top.specs.Verdict.{IsBuilt, IsNotBuilt, Outcome, no_proof, bad_step, open_nodes, accepted, HasOutcome, Verdict, no_bundle, judged, outcome_status, HasVerdict}
-use Rattle.rel_top.proofs.Verdicts.{same_parts}
+use Rattle.rel_top.specs.Judged.{IsOutcomeAnswer, IsProofAnswer, IsJudgedAnswer, IsBundleAnswer, IsTextAnswer, IsCheckAnswer, IsPrintAnswer, IsShowAnswer, IsReply, IsWordsAnswer, IsPrintedAs, answer_of}
+use Rattle.rel_top.specs.Verdict.{Refusal, IsRefused, IsRead, IsBuilt, Outcome, no_proof, bad_step, open_nodes, accepted, Verdict, refused, not_built, judged, printed, Command, check, show, words_of, outcome_status, HasVerdict}
+use Rattle.rel_decls.proofs.OneBundle.{one_bundle}
+use Rattle.rel_top.proofs.OneVerdict.{one_verdict}
 
 -- ---- what is told of a file
-
-same_content : (t : Told) → t ≢ untold → (c d : List ℕ) → IsToldAs t c → IsToldAs t d → c ≡ d
-same_content untold told c d e f = absurd (told refl)
-same_content absent told c d e f = absurd e
-same_content (bytes content) told c d e f = e ∙ sym f
 
 where_told : (t : Told) (P : List ℕ → Type 0) (c : List ℕ) → IsToldAs t c → P c → WhereTold t P
 where_told untold P c e p = tt
 where_told absent P c e p = absurd e
 where_told (bytes content) P c e p = subst P e p
 
--- ---- the words of `check`
+-- ---- words
 
-same_names : (b p c q : List ℕ) (words : Words) → words ≡ check_words b p → words ≡ check_words c q → (b ≡ c) × (p ≡ q)
-same_names b p c q words e f = let g = sym e ∙ f in (cc, cc)
+same_command : (c d : Command) (words : Words) → words ≡ words_of c → words ≡ words_of d → c ≡ d
+same_command (check b p) (check e q) words h g = let same = sym h ∙ g in let one : b ≡ e = cc in let two : p ≡ q = cc in λ i. check (one i) (two i)
+same_command (check b p) (show e) words h g = let same = sym h ∙ g in absurd cc
+same_command (show b) (check e q) words h g = let same = sym h ∙ g in absurd cc
+same_command (show b) (show e) words h g = let same = sym h ∙ g in let one : b ≡ e = cc in ap show one
 
 is_accepted : (o : Outcome) → outcome_status o ≡ Yes → o ≡ accepted
 is_accepted no_proof e = absurd cc
@@ -40,93 +39,97 @@ is_accepted (bad_step n) e = absurd cc
 is_accepted (open_nodes n) e = absurd cc
 is_accepted accepted e = refl
 
-stands_for_true : (text : List ℕ) (k : Parts) → IsBuiltOnce text k → ((b : Bundle) → HasForm b k → IsTrueBundle b) → StandsForTrueBundle text
-stands_for_true text k once enough =
-    let built = once.built in
-    let holds : IsTrueBundle built.bundle = enough built.bundle built.form in
-    record { bundle = built.bundle; stands = built.stands; true = λ c other. subst IsTrueBundle (once.one c other) holds }
+stands_for_true : (text : List ℕ) (b : Bundle) → IsRead text b → IsTrueBundle b → StandsForTrueBundle text
+stands_for_true text b read holds =
+    record { bundle = b; stands = read.stands; true = λ c other. subst IsTrueBundle (one_bundle text b c read.stands other) holds }
 
-module _ (told : List ℕ → Told) (Failed : List ℕ → Type 0) (words : Words) (a : Answer) (bundle proof : List ℕ) (e : words ≡ check_words bundle proof) where
-  -- a verdict on what the words name is one on these two files
-  abbrev Decides : Reply → Type 0
-  Decides r = (v : Verdict) → told bundle ≢ untold → told proof ≢ untold → HasVerdict (told bundle) (told proof) v → r ≡ answer v
+abbrev bundle_in : Command → List ℕ
+bundle_in (check bundle proof) = bundle
+bundle_in (show bundle) = bundle
 
-  decided_here : (r : Reply) → (((name : List ℕ) → ¬ (Failed name)) → Decides r)
-      → (b p : List ℕ) (v : Verdict) → words ≡ check_words b p → told b ≢ untold → told p ≢ untold → ((name : List ℕ) → ¬ (Failed name)) → HasVerdict (told b) (told p) v → r ≡ answer v
-  decided_here r h b p v f =
-      let same = same_names b p bundle proof words f e in
-      subst (λ c. told c ≢ untold → told p ≢ untold → ((name : List ℕ) → ¬ (Failed name)) → HasVerdict (told c) (told p) v → r ≡ answer v) (sym same.0)
-      (subst (λ q. told bundle ≢ untold → told q ≢ untold → ((name : List ℕ) → ¬ (Failed name)) → HasVerdict (told bundle) (told q) v → r ≡ answer v) (sym same.1)
-      (λ t u none has. h none v t u has))
-
-  of_unread : (name : List ℕ) → Failed name → HasReply told Failed words (unread name) → a ≡ answer_of (unread name) → IsReply told Failed words a
-  of_unread name failed has is = record {
-    reply = unread name;
-    has = has;
-    is = is;
-    decided = decided_here (unread name) (λ none. absurd (none name failed));
-    true = λ y. absurd cc;
-  }
+module _ (told : List ℕ → Told) (Failed : List ℕ → Type 0) (words : Words) (a : Answer) (bundle proof : List ℕ) (e : words ≡ words_of (check bundle proof)) where
+  of_unread : (name : List ℕ) → HasReply told Failed words (unread name) → a ≡ answer_of (unread name) → IsReply told Failed words a
+  of_unread name has is = record { reply = unread name; has = has; is = is; true = λ y. absurd cc }
 
   module _ (text : List ℕ) (is_told : IsToldAs (told bundle) text) where
-    of_no_bundle : IsNotBuilt text → a ≡ answer_of (answer no_bundle) → IsReply told Failed words a
-    of_no_bundle none is = record {
-      reply = answer no_bundle;
-      has = (bundle, proof, e, (text, is_told, none));
-      is = is;
-      decided = decided_here (answer no_bundle) (λ quiet. decides);
-      true = λ y. absurd cc;
-    } where
-      decides : Decides (answer no_bundle)
-      decides no_bundle t u has = refl
-      decides (judged k o) t u has = absurd (none k (subst (λ c. IsBuilt c k) (same_content (told bundle) t has.0.0 text has.0.1 is_told) has.0.2))
+    of_refusal : (r : Refusal) → IsRefused text r → a ≡ answer_of (answer (refused r)) → IsReply told Failed words a
+    of_refusal r h is = record { reply = answer (refused r); has = (check bundle proof, e, (text, is_told, h)); is = is; true = λ y. absurd cc }
 
-    of_content : (k : Parts) → IsBuiltOnce text k → (content : List ℕ) → IsToldAs (told proof) content → IsOutcomeAnswer k content a → IsReply told Failed words a
-    of_content k once content content_told h = record {
-      reply = answer (judged k h.outcome);
-      has = (bundle, proof, e, ((text, is_told, once.built), (content, content_told, h.has)));
-      is = h.is;
-      decided = decided_here (answer (judged k h.outcome)) (λ quiet. decides);
-      true = λ y. record {
-        bundle = bundle;
-        proof = proof;
-        checked = e;
-        true = where_told (told bundle) StandsForTrueBundle text is_told
-            (stands_for_true text k once (h.enough (is_accepted h.outcome (sym (ap (λ b. b.status) h.is) ∙ y))));
-      };
-    } where
-      decides : Decides (answer (judged k h.outcome))
-      decides no_bundle t u has = absurd (subst IsNotBuilt (same_content (told bundle) t has.0 text has.1 is_told) has.2 k once.built)
-      decides (judged l o) t u has =
-          let built : IsBuilt text l = subst (λ c. IsBuilt c l) (same_content (told bundle) t has.0.0 text has.0.1 is_told) has.0.2 in
-          let outcome : HasOutcome l o content = subst (HasOutcome l o) (same_content (told proof) u has.1.0 content has.1.1 content_told) has.1.2 in
-          let one : once.built.bundle ≡ built.bundle = once.one built.bundle built.stands in
-          let same : k ≡ l = same_parts built.bundle k l (subst (λ b. HasForm b k) one once.built.form) built.form in
-          let last : o ≡ h.outcome = h.only o (subst (λ m. HasOutcome m o content) (sym same) outcome) in
-          λ i. answer (judged (same i) (sym last i))
+    module _ (b : Bundle) (read : IsRead text b) where
+      of_other : ((k : Parts) → ¬ (IsStraight b k)) → a ≡ answer_of (answer not_built) → IsReply told Failed words a
+      of_other other is = record {
+        reply = answer not_built;
+        has = (check bundle proof, e, (text, is_told, record { bundle = b; read = read; other = other }));
+        is = is;
+        true = λ y. absurd cc;
+      }
 
-    of_parts : (k : Parts) → IsBuiltOnce text k → IsPartsAnswer k told Failed proof a → IsReply told Failed words a
-    unfolding IsPartsAnswer IsProofAnswer
-    of_parts k once (inl h) = of_unread proof h.0 (bundle, proof, e, (h.0, inr (refl, (k, (text, is_told, once.built))))) h.1
-    of_parts k once (inr h) = of_content k once h.0 h.1 h.2
+      module _ (k : Parts) (straight : IsStraight b k) where
+        built : IsBuilt text k
+        built = record { bundle = b; read = read; straight = straight }
+
+        of_content : (content : List ℕ) → IsToldAs (told proof) content → IsOutcomeAnswer b k content a → IsReply told Failed words a
+        of_content content content_told h = record {
+          reply = answer (judged k h.outcome);
+          has = (check bundle proof, e, ((text, is_told, built), (content, content_told, h.has)));
+          is = h.is;
+          true = λ y other_bundle other_proof f.
+              subst (λ c. WhereTold (told (bundle_in c)) StandsForTrueBundle) (same_command (check bundle proof) (check other_bundle other_proof) words e f)
+              (where_told (told bundle) StandsForTrueBundle text is_told (stands_for_true text b read (h.enough (is_accepted h.outcome (sym (ap (λ c. c.status) h.is) ∙ y)))));
+        }
+
+        of_judged : IsJudgedAnswer b told Failed proof a → IsReply told Failed words a
+        unfolding IsJudgedAnswer IsProofAnswer
+        of_judged (inl h) = of_unread proof (check bundle proof, e, (h.0, inr (refl, (k, (text, is_told, built))))) h.1
+        of_judged (inr h) = of_content h.0 h.1 (h.2 k straight)
+
+      of_bundle : IsBundleAnswer b told Failed proof a → IsReply told Failed words a
+      unfolding IsBundleAnswer
+      of_bundle (inl h) = of_other h.0 h.1
+      of_bundle (inr h) = of_judged h.0 h.1 h.2
 
     of_text : IsTextAnswer text told Failed proof a → IsReply told Failed words a
     unfolding IsTextAnswer
-    of_text (inl h) = of_no_bundle h.0 h.1
-    of_text (inr h) = of_parts h.0 h.1 h.2
+    of_text (inl h) = of_refusal h.0 h.1 h.2
+    of_text (inr h) = of_bundle h.0 h.1 h.2
 
   of_check : IsCheckAnswer told Failed bundle proof a → IsReply told Failed words a
   unfolding IsCheckAnswer
-  of_check (inl h) = of_unread bundle h.0 (bundle, proof, e, (h.0, inl refl)) h.1
+  of_check (inl h) = of_unread bundle (check bundle proof, e, (h.0, inl refl)) h.1
   of_check (inr h) = of_text h.0 h.1 h.2
 
   pub checked_answer : IsCheckAnswer told Failed bundle proof a → IsWordsAnswer told Failed words a
   unfolding IsWordsAnswer
   checked_answer h = of_check h
 
-pub usage_answer : (told : List ℕ → Told) (Failed : List ℕ → Type 0) (words : Words) (a : Answer) → ((bundle proof : List ℕ) → words ≢ check_words bundle proof) → a ≡ answer_of usage → IsWordsAnswer told Failed words a
+module _ (told : List ℕ → Told) (Failed : List ℕ → Type 0) (words : Words) (a : Answer) (bundle : List ℕ) (e : words ≡ words_of (show bundle)) where
+  -- words that ask for a print ask for no judgement
+  no_claim : IsYes told words
+  no_claim other_bundle other_proof f = let same = sym e ∙ f in absurd cc
+
+  of_print : (text : List ℕ) → IsToldAs (told bundle) text → IsPrintAnswer text a → IsReply told Failed words a
+  unfolding IsPrintAnswer
+  of_print text is_told (inl h) = record { reply = answer (refused h.0); has = (show bundle, e, (text, is_told, h.1)); is = h.2; true = λ y. no_claim }
+  of_print text is_told (inr h) = record { reply = answer (printed h.0); has = (show bundle, e, (text, is_told, h.1)); is = h.2; true = λ y. no_claim }
+
+  of_show : IsShowAnswer told Failed bundle a → IsReply told Failed words a
+  unfolding IsShowAnswer
+  of_show (inl h) = record { reply = unread bundle; has = (show bundle, e, (h.0, refl)); is = h.1; true = λ y. no_claim }
+  of_show (inr h) = of_print h.0 h.1 h.2
+
+  pub shown_answer : IsShowAnswer told Failed bundle a → IsWordsAnswer told Failed words a
+  unfolding IsWordsAnswer
+  shown_answer h = of_show h
+
+pub usage_answer : (told : List ℕ → Told) (Failed : List ℕ → Type 0) (words : Words) (a : Answer)
+    → ((bundle proof : List ℕ) → words ≢ words_of (check bundle proof)) → ((bundle : List ℕ) → words ≢ words_of (show bundle)) → a ≡ answer_of usage
+    → IsWordsAnswer told Failed words a
 unfolding IsWordsAnswer
-usage_answer told Failed words a none is = record { reply = usage; has = none; is = is; decided = λ b p v e. absurd (none b p e); true = λ y. absurd cc }
+usage_answer told Failed words a no_check no_show is = record { reply = usage; has = none; is = is; true = λ y. absurd cc }
+  where
+    none : (c : Command) → words ≢ words_of c
+    none (check bundle proof) = no_check bundle proof
+    none (show bundle) = no_show bundle
 
 -- ---- what is printed
 
@@ -200,7 +203,9 @@ not_printed out a h = inr (refl, h)
 ends_as : (r : Reply) (out : Output) → IsPrinted out (lines_of r) → EndsWith r out (status_of r)
 ends_as usage out p = (refl, p)
 ends_as (unread name) out p = (refl, p)
-ends_as (answer no_bundle) out p = (refl, p)
+ends_as (answer (refused r)) out p = (refl, p)
+ends_as (answer not_built) out p = (refl, p)
+ends_as (answer (printed b)) out p = (refl, p)
 ends_as (answer (judged k no_proof)) out p = (refl, p)
 ends_as (answer (judged k (bad_step n))) out p = (refl, p)
 ends_as (answer (judged k (open_nodes n))) out p = (refl, p)
@@ -217,8 +222,17 @@ unfolding IsPrintedAs
 not_unread out a status (inl p) read put e = read (p.0 ∙ e)
 not_unread out a status (inr p) read put e = put p.0
 
-answer_is : (v w : Verdict) → answer v ≡ answer w → v ≡ w
-answer_is v w e = cc
+-- a reply is the verdict, where the files are told and no read failed
+is_verdict : (told : List ℕ → Told) (Failed : List ℕ → Type 0) (words : Words) (r : Reply) → HasReply told Failed words r
+    → (c : Command) (v : Verdict) → words ≡ words_of c → AreTold told c → ((name : List ℕ) → ¬ (Failed name)) → HasVerdict told c v → r ≡ answer v
+is_verdict told Failed words usage has c v e are none h = absurd (has c e)
+is_verdict told Failed words (unread name) has c v e are none h = absurd (failed has.0 has.2)
+  where
+    failed : (d : Command) → IsUnread told Failed d name → ⊥
+    failed (check bundle proof) f = none name f.0
+    failed (show bundle) f = none name f.0
+is_verdict told Failed words (answer w) has c v e are none h =
+    ap answer (one_verdict told c are w v (subst (λ d. HasVerdict told d w) (same_command has.0 c words has.1 e) has.2) h)
 
 module _ (told : List ℕ → Told) (Failed : List ℕ → Type 0) (words : Words) (out : Output) where
   pub ends_well : (a : Answer) (status : Status) → IsWordsAnswer told Failed words a → IsPrintedAs out a status → Ends (HasReply told Failed words) out status
@@ -227,11 +241,10 @@ module _ (told : List ℕ → Told) (Failed : List ℕ → Type 0) (words : Word
 
   pub decided_well : (a : Answer) (status : Status) (FilesFailed : Type 0) → ((name : List ℕ) → Failed name → FilesFailed) → IsWordsAnswer told Failed words a → IsPrintedAs out a status → IsDecided told FilesFailed words out status
   unfolding IsWordsAnswer IsDecided
-  decided_well a status FilesFailed failed h p b q v e t u none has =
-      let read : (name : List ℕ) → ¬ (Failed name) = λ name f. none (failed name f) in
-      let same = h.decided b q v e t u read has in (
+  decided_well a status FilesFailed failed h p c v e are none has =
+      let same = is_verdict told Failed words h.reply h.has c v e are (λ name f. none (failed name f)) has in (
         subst (λ r. EndsWith r out status) same (ends_with h.reply out a status h.is p),
-        inr (λ w other. answer_is w v (sym (h.decided b q w e t u read other) ∙ same)),
+        λ w other. one_verdict told c are w v other has,
       )
 
   pub yes_well : (a : Answer) (status : Status) → IsWordsAnswer told Failed words a → IsPrintedAs out a status → status ≡ Yes → IsYes told words
@@ -245,4 +258,4 @@ module _ (told : List ℕ → Told) (Failed : List ℕ → Type 0) (words : Word
 
 pub undecided : (told : List ℕ → Told) (FilesFailed : Type 0) (words : Words) (out : Output) → IsSilent out → IsDecided told FilesFailed words out Memory
 unfolding IsDecided
-undecided told FilesFailed words out silent b q v e t u none has = (silent, inl refl)
+undecided told FilesFailed words out silent c v e are none has = (silent, λ w other. one_verdict told c are w v other has)

@@ -1,4 +1,5 @@
 mod ProofFiles
 pub mod FewSteps
+pub mod OneVerdict
 pub mod Verdicts
 pub mod Endings

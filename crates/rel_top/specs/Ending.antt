@@ -1,19 +1,15 @@
 -- How a call of `run` ends: which answer comes where, and what it prints.
-use Rattle.std.specs.Prelude.{◌≡◌, ◌≢◌, ◌⊎◌, ℕ, List, [], ◌∷◌, Option, codes}
+use Rattle.std.specs.Prelude.{◌≡◌, ◌≢◌, ◌⊎◌, ℕ, List, [], ◌∷◌, Option}
 use Rattle.std.specs.List.{concat}
 use Rattle.rel_io.specs.Told.{Told, untold, Rose, Appends, AppendsFront}
 use Rattle.rel_top.specs.Report.{usage_line, fault_line}
-use Rattle.rel_top.specs.Verdict.{IsBuilt, Verdict, MayHold, HasVerdict, verdict_status, verdict_lines}
-use Rattle.straight_linking.specs.Form.{Parts}
+use Rattle.rel_top.specs.Verdict.{IsBuilt, Verdict, MayHold, Command, check, show, words_of, HasVerdict, verdict_status, verdict_lines}
+use Rattle.rel_linking.specs.Form.{Parts}
 use Rattle.rel_top.specs.declared.status.Status.{Status}
 use Rattle.rel_top.specs.declared.status.Status.TheVariants.{Yes, Refused, Usage, FileFault, OutputFault, Memory, Unproved}
 
 abbrev pub Words : Type 0
 Words = List (List ℕ)
-
--- the words of `check`
-abbrev pub check_words : List ℕ → List ℕ → Words
-check_words bundle proof = codes "check" ∷ bundle ∷ proof ∷ []
 
 -- what a call comes to: the words are no command, a file couldn't be read, or there is a verdict
 pub data Reply : Type 0 where
@@ -26,17 +22,16 @@ abbrev pub ReadFailed : ℕ → ℕ → (List ℕ → ℕ) → (List ℕ → ℕ
 ReadFailed faults new_faults reads new_reads name = Rose faults new_faults × Rose (reads name) (new_reads name)
 
 -- a read of the file of this name failed: the bundle's, or the proof's, which isn't read before the bundle can be judged
-abbrev pub IsUnread : (List ℕ → Told) → (List ℕ → Type 0) → List ℕ → List ℕ → List ℕ → Type 0
-IsUnread told Failed bundle proof name =
+abbrev pub IsUnread : (List ℕ → Told) → (List ℕ → Type 0) → Command → List ℕ → Type 0
+IsUnread told Failed (check bundle proof) name =
     Failed name × ((name ≡ bundle) ⊎ ((name ≡ proof) × ((k : Parts) × MayHold (told bundle) (λ text. IsBuilt text k))))
+IsUnread told Failed (show bundle) name = Failed name × (name ≡ bundle)
 
 -- The reply to these words comes only so, of files that tell this and of which the reads at these names failed.
 abbrev pub HasReply : (List ℕ → Told) → (List ℕ → Type 0) → Words → Reply → Type 0
-HasReply told Failed words usage = (bundle proof : List ℕ) → words ≢ check_words bundle proof
-HasReply told Failed words (unread name) =
-    (bundle : List ℕ) × (proof : List ℕ) × (words ≡ check_words bundle proof) × IsUnread told Failed bundle proof name
-HasReply told Failed words (answer v) =
-    (bundle : List ℕ) × (proof : List ℕ) × (words ≡ check_words bundle proof) × HasVerdict (told bundle) (told proof) v
+HasReply told Failed words usage = (c : Command) → words ≢ words_of c
+HasReply told Failed words (unread name) = (c : Command) × (words ≡ words_of c) × IsUnread told Failed c name
+HasReply told Failed words (answer v) = (c : Command) × (words ≡ words_of c) × HasVerdict told c v
 
 abbrev pub status_of : Reply → Status
 status_of usage = Usage
@@ -87,9 +82,13 @@ EndsWith r out Unproved = ⊥
 unfoldable pub Ends : (Reply → Type 0) → Output → Status → Type 0
 Ends Has out status = ((status ≡ Memory) × IsSilent out) ⊎ ((r : Reply) × Has r × EndsWith r out status)
 
--- Where both files are told and no read failed, the call ends with the verdict on them; and there is no other one, or there was no memory.
+-- something is told of each file that the command names
+abbrev pub AreTold : (List ℕ → Told) → Command → Type 0
+AreTold told (check bundle proof) = (told bundle ≢ untold) × (told proof ≢ untold)
+AreTold told (show bundle) = told bundle ≢ untold
+
+-- Where the files are told and no read failed, the call ends with the verdict on them, and there is no other one.
 unfoldable pub IsDecided : (List ℕ → Told) → Type 0 → Words → Output → Status → Type 0
 IsDecided told FilesFailed words out status =
-    (bundle proof : List ℕ) (v : Verdict) → words ≡ check_words bundle proof → told bundle ≢ untold → told proof ≢ untold
-    → ¬ FilesFailed → HasVerdict (told bundle) (told proof) v
-    → EndsWith (answer v) out status × ((status ≡ Memory) ⊎ ((w : Verdict) → HasVerdict (told bundle) (told proof) w → w ≡ v))
+    (c : Command) (v : Verdict) → words ≡ words_of c → AreTold told c → ¬ FilesFailed → HasVerdict told c v
+    → EndsWith (answer v) out status × ((w : Verdict) → HasVerdict told c w → w ≡ v)

@@ -1,31 +1,31 @@
 //! Judges a bundle by its proof file.
 
-ghost use Rattle.std.specs.Prelude.{◌≡◌, ◌≢◌, ◌^◌, ◌<◌, ◌≤◌, [], ◌∷◌, length, IfOk};
+ghost use Rattle.std.specs.Prelude.{◌≡◌, ◌≢◌, ◌^◌, ◌<◌, ◌≤◌, [], ◌∷◌, length, IfOk, Some};
 ghost use Rattle.rel_io.specs.Told.{IsToldAs, IsLonger};
 ghost use Rattle.rel_io.specs.Answers.{IfFailed, UnlessFailed, IfTooLong};
-ghost use Rattle.straight_lang.specs.Limits.{Fits};
-ghost use Rattle.straight_lang.specs.View.{bundle_of};
+ghost use Rattle.rel_decls.specs.declared.fault.TextFault.TheVariants as texts;
+ghost use Rattle.rel_lang.specs.Refusal.{Fits};
+ghost use Rattle.rel_lang.specs.View.{item_of, bundle_of};
 ghost use Rattle.rel_top.specs.Ending.{ReadFailed, unread, answer};
-ghost use Rattle.rel_top.specs.Judged.{IsObligation, IsStepsAnswer, IsProofAnswer, IsPartsAnswer, IsBundleAnswer, IsTextAnswer, IsCheckAnswer, answer_of};
-ghost use Rattle.straight_linking.specs.Parts.{HasFew, parts_view};
-ghost use Rattle.rel_top.specs.Verdict.{no_bundle, judged, no_proof};
+ghost use Rattle.rel_top.specs.Judged.{OfParts, IsObligation, IsFound, IsStepsAnswer, IsProofAnswer, IsJudgedAnswer, IsBundleAnswer, IsTextAnswer, IsCheckAnswer, answer_of};
+ghost use Rattle.rel_top.specs.Report.{item_line, yes_line};
+ghost use Rattle.rel_top.specs.Verdict.{too_large, bad_text, refused, not_built, judged, no_proof};
 ghost use Rattle.rel_top.specs.Verdict as V;
 
 use crate::proof_file::{ProofFault, read_proof};
 use crate::report;
 use crate::status::Status;
+use rel_decls::{TextFault, parse_bundle};
 use rel_derive::checker::{Verdict, accepts};
 use rel_derive::step::Step;
 use rel_io::{FileFault, Files};
+use rel_lang::bundle::{Bundle, Item};
+use rel_linking::obligation;
 use rel_list::{Boxed, List, Memory, Name};
 use rel_logic::sequent::Sequent;
 use std::alloc::Global;
-use straight_decls::{TextFault, parse_bundle};
-use straight_lang::bundle::Bundle;
-use straight_linking::form::{Parts, parts_of};
-use straight_linking::obligation::obligation;
 
-const BUNDLE_LIMIT: u64 = 1 << 22;
+pub const BUNDLE_LIMIT: u64 = 1 << 22;
 
 const PROOF_LIMIT: u64 = 1 << 26;
 
@@ -33,14 +33,22 @@ const PROOF_LIMIT: u64 = 1 << 26;
 #[derive(Drop)]
 pub struct Answer {
     pub status: Status,
-    pub lines: List<Name>,
+    pub lines: List<List<u8>>,
+}
+
+fn bytes_of(line: Name) -> List<u8>
+    ensures { result ≡ line }
+{
+    List {
+        items: line.text.into_bytes(),
+    }
 }
 
 pub fn with_line(alloc: Global, status: Status, line: Name) -> Result<Answer, Memory>
     ensures { IfOk result (λ a. a ≡ record { status = status; lines = line ∷ [] }) }
 {
     let mut lines = List::new(alloc);
-    lines.push(line)?;
+    lines.push(bytes_of(line))?;
     Ok(Answer { status, lines })
 }
 
@@ -61,13 +69,13 @@ pub fn check<F: Files>(
     match content_of(alloc, bundle, BUNDLE_LIMIT, files) {
         Ok(text) => Ok(check_text(alloc, text.as_slice(), proof, files)?),
         Err(FileFault::Failed) => Ok(unreadable(alloc, bundle)?),
-        Err(FileFault::TooLong) => Ok(without_bundle(alloc)?),
+        Err(FileFault::TooLong) => Ok(too_large(alloc)?),
         Err(FileFault::Memory) => Err(Memory),
     }
 }
 
 /// The bytes under the name.
-fn content_of<F: Files>(
+pub fn content_of<F: Files>(
     alloc: Global,
     name: &str,
     limit: u64,
@@ -87,20 +95,34 @@ fn content_of<F: Files>(
 }
 
 /// A read of the file failed.
-fn unreadable(alloc: Global, name: &str) -> Result<Answer, Memory>
+pub fn unreadable(alloc: Global, name: &str) -> Result<Answer, Memory>
     ensures { IfOk result (λ a. a ≡ answer_of (unread name.now)) }
 {
     with_line(alloc, Status::FileFault, report::file_fault(alloc, name)?)
 }
 
+/// The bundle has too many bytes.
+pub fn too_large(alloc: Global) -> Result<Answer, Memory>
+    ensures { IfOk result (λ a. a ≡ answer_of (answer (refused too_large))) }
+{
+    with_line(alloc, Status::Refused, report::bundle_too_large(alloc)?)
+}
+
+/// The bundle's text has this fault.
+pub fn faulty(alloc: Global, fault: TextFault) -> Result<Answer, Memory>
+    ensures { IfOk result (λ a. (fault ≢ texts.Memory) × (a ≡ answer_of (answer (refused (bad_text fault))))) }
+{
+    with_line(alloc, Status::Refused, report::text_fault(alloc, fault)?)
+}
+
 fn without_bundle(alloc: Global) -> Result<Answer, Memory>
-    ensures { IfOk result (λ a. a ≡ answer_of (answer no_bundle)) }
+    ensures { IfOk result (λ a. a ≡ answer_of (answer not_built)) }
 {
     with_line(alloc, Status::Refused, report::bundle_not_built(alloc)?)
 }
 
-fn without_proof(alloc: Global, parts: &Parts<'_>) -> Result<Answer, Memory>
-    ensures { IfOk result (λ a. a ≡ answer_of (answer (judged (parts_view parts.now) no_proof))) }
+fn without_proof(alloc: Global, bundle: &Bundle) -> Result<Answer, Memory>
+    ensures { IfOk result (λ a. OfParts (bundle_of bundle.now) (λ k. answer (judged k no_proof)) a) }
 {
     with_line(alloc, Status::Refused, report::proof_not_built(alloc)?)
 }
@@ -121,8 +143,18 @@ fn check_text<F: Files>(
 {
     match parse_bundle(alloc, text) {
         Ok(bundle) => Ok(check_bundle(alloc, &bundle, proof, files)?),
-        Err(TextFault::Refused) => Ok(without_bundle(alloc)?),
-        Err(TextFault::Memory) => Err(Memory),
+        Err(fault) => Ok(faulty(alloc, fault)?),
+    }
+}
+
+/// Boxed, since a function that drops a sequent of its own is too large for the check.
+fn boxed_obligation(alloc: Global, bundle: &Bundle) -> Result<Option<Boxed<Sequent>>, Memory>
+    requires { Fits (bundle_of bundle.now) }
+    ensures { IfOk result (λ o. IsFound (bundle_of bundle.now) o) }
+{
+    match obligation(alloc, bundle)? {
+        Some(sequent) => Ok(Some(Boxed::new(alloc, sequent)?)),
+        None => Ok(None),
     }
 }
 
@@ -140,49 +172,21 @@ fn check_bundle<F: Files>(
     ensures contents_stay { F.told files.new ≡ F.told files.old }
     ensures quiet { IfOk result (λ a. a.status ≢ Status.FileFault → F.faults files.new ≡ F.faults files.old) }
 {
-    match parts_of(bundle) {
-        Some(parts) => Ok(check_parts(alloc, &parts, proof, files)?),
+    match boxed_obligation(alloc, bundle)? {
+        Some(sequent) => Ok(check_sequent(alloc, bundle, sequent.get(), proof, files)?),
         None => Ok(without_bundle(alloc)?),
     }
 }
 
-/// Boxed, since a function that drops a sequent of its own is too large for the check.
-fn boxed_obligation(alloc: Global, parts: &Parts<'_>) -> Result<Boxed<Sequent>, Memory>
-    requires { HasFew parts.now }
-    ensures { IfOk result (λ q. IsObligation q (parts_view parts.now)) }
-{
-    let sequent = obligation(alloc, parts)?;
-    let boxed = Boxed::new(alloc, sequent)?;
-    Ok(boxed)
-}
-
-fn check_parts<F: Files>(
-    alloc: Global,
-    parts: &Parts<'_>,
-    proof: &str,
-    files: &mut F,
-) -> Result<Answer, Memory>
-    requires { HasFew parts.now }
-    ensures answer { IfOk result (IsPartsAnswer (parts_view parts.now) (F.told files.old)
-        (ReadFailed (F.faults files.old) (F.faults files.new)
-        (F.read_faults files.old) (F.read_faults files.new))
-        proof.now) }
-    ensures contents_stay { F.told files.new ≡ F.told files.old }
-    ensures quiet { IfOk result (λ a. a.status ≢ Status.FileFault → F.faults files.new ≡ F.faults files.old) }
-{
-    let sequent = boxed_obligation(alloc, parts)?;
-    Ok(check_sequent(alloc, parts, sequent.get(), proof, files)?)
-}
-
 fn check_sequent<F: Files>(
     alloc: Global,
-    parts: &Parts<'_>,
+    bundle: &Bundle,
     sequent: &Sequent,
     proof: &str,
     files: &mut F,
 ) -> Result<Answer, Memory>
-    requires { IsObligation sequent.now (parts_view parts.now) }
-    ensures answer { IfOk result (IsPartsAnswer (parts_view parts.now) (F.told files.old)
+    requires { IsObligation (bundle_of bundle.now) sequent.now }
+    ensures answer { IfOk result (IsJudgedAnswer (bundle_of bundle.now) (F.told files.old)
         (ReadFailed (F.faults files.old) (F.faults files.new)
         (F.read_faults files.old) (F.read_faults files.new))
         proof.now) }
@@ -190,9 +194,9 @@ fn check_sequent<F: Files>(
     ensures quiet { IfOk result (λ a. a.status ≢ Status.FileFault → F.faults files.new ≡ F.faults files.old) }
 {
     match content_of(alloc, proof, PROOF_LIMIT, files) {
-        Ok(content) => Ok(check_proof(alloc, parts, sequent, content.as_slice())?),
+        Ok(content) => Ok(check_proof(alloc, bundle, sequent, content.as_slice())?),
         Err(FileFault::Failed) => Ok(unreadable(alloc, proof)?),
-        Err(FileFault::TooLong) => Ok(without_proof(alloc, parts)?),
+        Err(FileFault::TooLong) => Ok(without_proof(alloc, bundle)?),
         Err(FileFault::Memory) => Err(Memory),
     }
 }
@@ -200,45 +204,61 @@ fn check_sequent<F: Files>(
 #[tactic(auto, using(crate::proofs::Verdicts::of_proof))]
 fn check_proof(
     alloc: Global,
-    parts: &Parts<'_>,
+    bundle: &Bundle,
     sequent: &Sequent,
     proof: &[u8],
 ) -> Result<Answer, Memory>
-    requires { IsObligation sequent.now (parts_view parts.now) }
-    ensures { IfOk result (IsProofAnswer (parts_view parts.now) proof.now) }
+    requires { IsObligation (bundle_of bundle.now) sequent.now }
+    ensures { IfOk result (IsProofAnswer (bundle_of bundle.now) proof.now) }
 {
     match read_proof(alloc, proof) {
-        Ok(steps) => check_steps(alloc, parts, sequent, &steps),
-        Err(ProofFault::NotBuilt) => without_proof(alloc, parts),
+        Ok(steps) => check_steps(alloc, bundle, sequent, &steps),
+        Err(ProofFault::NotBuilt) => without_proof(alloc, bundle),
         Err(ProofFault::Memory) => Err(Memory),
     }
 }
 
 fn check_steps(
     alloc: Global,
-    parts: &Parts<'_>,
+    bundle: &Bundle,
     sequent: &Sequent,
     steps: &List<Step>,
 ) -> Result<Answer, Memory>
     requires few { length steps.now < 2 ^ 32 }
-    requires obligation { IsObligation sequent.now (parts_view parts.now) }
-    ensures { IfOk result (IsStepsAnswer (parts_view parts.now) steps.now) }
+    requires obligation { IsObligation (bundle_of bundle.now) sequent.now }
+    ensures { IfOk result (IsStepsAnswer (bundle_of bundle.now) steps.now) }
 {
     match accepts(alloc, sequent, steps)? {
-        Verdict::Accepted => Ok(accepted(alloc, parts)?),
-        Verdict::BadStep(step) => Ok(bad_step(alloc, parts, step)?),
-        Verdict::OpenNodes(nodes) => Ok(open_nodes(alloc, parts, nodes)?),
+        Verdict::Accepted => Ok(accepted(alloc, bundle)?),
+        Verdict::BadStep(step) => Ok(bad_step(alloc, bundle, step)?),
+        Verdict::OpenNodes(nodes) => Ok(open_nodes(alloc, bundle, nodes)?),
     }
 }
 
-fn accepted(alloc: Global, parts: &Parts<'_>) -> Result<Answer, Memory>
-    ensures { IfOk result (λ a. a ≡ answer_of (answer (judged (parts_view parts.now) V.accepted))) }
+/// The lines of the two units and the judgement, and of the yes.
+fn yes_lines(
+    alloc: Global,
+    left: &Item,
+    right: &Item,
+    judgement: &Item,
+) -> Result<List<List<u8>>, Memory>
+    ensures { IfOk result (λ ls. ls ≡ item_line (item_of left.now) 0 ∷ item_line (item_of right.now) 0
+        ∷ item_line (item_of judgement.now) 1 ∷ yes_line 3 1 ∷ []) }
 {
     let mut lines = List::new(alloc);
-    lines.push(report::unit(alloc, parts.left.name.as_str())?)?;
-    lines.push(report::unit(alloc, parts.right.name.as_str())?)?;
-    lines.push(report::judge(alloc, parts.judgement.name.as_str())?)?;
-    lines.push(report::yes(alloc)?)?;
+    lines.push(bytes_of(report::item(alloc, left, 0)?))?;
+    lines.push(bytes_of(report::item(alloc, right, 0)?))?;
+    lines.push(bytes_of(report::item(alloc, judgement, 1)?))?;
+    lines.push(bytes_of(report::yes(alloc, 3, 1)?))?;
+    Ok(lines)
+}
+
+fn accepted(alloc: Global, bundle: &Bundle) -> Result<Answer, Memory>
+    requires { length bundle.now.items ≡ 3 }
+    ensures { IfOk result (λ a. OfParts (bundle_of bundle.now) (λ k. answer (judged k V.accepted)) a) }
+{
+    let items = &bundle.items;
+    let lines = yes_lines(alloc, items.at(0), items.at(1), items.at(2))?;
     Ok(Answer {
         status: Status::Yes,
         lines,
@@ -246,17 +266,19 @@ fn accepted(alloc: Global, parts: &Parts<'_>) -> Result<Answer, Memory>
 }
 
 /// The step of this number isn't good.
-fn bad_step(alloc: Global, parts: &Parts<'_>, step: u32) -> Result<Answer, Memory>
-    ensures { IfOk result (λ a. a ≡ answer_of (answer (judged (parts_view parts.now) (V.bad_step step)))) }
+fn bad_step(alloc: Global, bundle: &Bundle, step: u32) -> Result<Answer, Memory>
+    requires { length bundle.now.items ≡ 3 }
+    ensures { IfOk result (λ a. OfParts (bundle_of bundle.now) (λ k. answer (judged k (V.bad_step step))) a) }
 {
-    let line = report::bad_step(alloc, parts.judgement, step)?;
+    let line = report::bad_step(alloc, bundle.items.at(2), step)?;
     with_line(alloc, Status::Refused, line)
 }
 
 /// So many nodes are open after the last step.
-fn open_nodes(alloc: Global, parts: &Parts<'_>, nodes: u64) -> Result<Answer, Memory>
-    ensures { IfOk result (λ a. a ≡ answer_of (answer (judged (parts_view parts.now) (V.open_nodes nodes)))) }
+fn open_nodes(alloc: Global, bundle: &Bundle, nodes: u64) -> Result<Answer, Memory>
+    requires { length bundle.now.items ≡ 3 }
+    ensures { IfOk result (λ a. OfParts (bundle_of bundle.now) (λ k. answer (judged k (V.open_nodes nodes))) a) }
 {
-    let line = report::open_nodes(alloc, parts.judgement, nodes)?;
+    let line = report::open_nodes(alloc, bundle.items.at(2), nodes)?;
     with_line(alloc, Status::Refused, line)
 }

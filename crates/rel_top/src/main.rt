@@ -5,6 +5,7 @@ mod check;
 mod proof_file;
 mod report;
 mod run;
+mod show;
 mod status;
 
 use rel_io::{HostFiles, HostSink};

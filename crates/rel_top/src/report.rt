@@ -1,12 +1,14 @@
 //! The lines that are printed.
 
-ghost use Rattle.std.specs.Prelude.{◌≡◌, IfOk};
-ghost use Rattle.straight_lang.specs.View.{judgement_of};
-ghost use Rattle.rel_top.specs.Report.{usage_line, fault_line, bundle_line, proof_line, bad_step_line, open_nodes_line, unit_line, judge_line, yes_line};
+ghost use Rattle.std.specs.Prelude.{◌≡◌, ◌≢◌, IfOk};
+ghost use Rattle.rel_decls.specs.declared.fault.TextFault.TheVariants as faults;
+ghost use Rattle.rel_lang.specs.View.{item_of};
+ghost use Rattle.rel_top.specs.Report.{usage_line, fault_line, large_line, refused_line, text_fault_line, bundle_line, proof_line, kind_of, name_of as item_name, byte_of, bad_step_line, open_nodes_line, item_line, yes_line};
 
+use rel_decls::{LexKind, TextFault};
+use rel_lang::bundle::Item;
 use rel_list::{Memory, Name};
 use std::alloc::Global;
-use straight_lang::bundle::Judgement;
 
 const USAGE: &str = "usage: whyrel check BUNDLE PROOF | prove BUNDLE OUT BUDGET | \
     obligations BUNDLE | show BUNDLE | big N BUDGET\n";
@@ -25,6 +27,36 @@ pub fn file_fault(alloc: Global, name: &str) -> Result<Name, Memory>
     Ok(Name { text })
 }
 
+/// The bundle has too many bytes.
+pub fn bundle_too_large(alloc: Global) -> Result<Name, Memory>
+    ensures { IfOk result (λ text. text ≡ large_line) }
+{
+    Name::new(alloc, "refused TooLarge bundle\n")
+}
+
+fn refused(alloc: Global, why: &str, at: u32) -> Result<Name, Memory>
+    ensures { IfOk result (λ text. text ≡ refused_line why.now at) }
+{
+    let text = format!(in alloc; "refused {why} at {at}\n")?;
+    Ok(Name { text })
+}
+
+/// The bundle's text has this fault. Want of memory has no line.
+pub fn text_fault(alloc: Global, fault: TextFault) -> Result<Name, Memory>
+    ensures line { IfOk result (λ text. text ≡ text_fault_line fault) }
+    ensures some { IfOk result (λ text. fault ≢ faults.Memory) }
+{
+    match fault {
+        TextFault::NotUtf8(at) => refused(alloc, "NotUtf8", at),
+        TextFault::Lexical(LexKind::BadChar, at) => refused(alloc, "Lexical BadChar", at),
+        TextFault::Lexical(LexKind::WideLiteral, at) => refused(alloc, "Lexical WideLiteral", at),
+        TextFault::Syntax(at) => refused(alloc, "Syntax", at),
+        TextFault::TooDeep(at) => refused(alloc, "TooDeep", at),
+        TextFault::TooMany(at) => refused(alloc, "TooMany", at),
+        TextFault::Memory => Err(Memory),
+    }
+}
+
 /// The bundle isn't one that can be judged so far.
 pub fn bundle_not_built(alloc: Global) -> Result<Name, Memory>
     ensures { IfOk result (λ text. text ≡ bundle_line) }
@@ -39,47 +71,85 @@ pub fn proof_not_built(alloc: Global) -> Result<Name, Memory>
     Name::new(alloc, "refused NotBuilt proof\n")
 }
 
-/// The step of this number isn't good.
-pub fn bad_step(alloc: Global, judgement: &Judgement, step: u32) -> Result<Name, Memory>
-    ensures { IfOk result (λ text. text ≡ bad_step_line (judgement_of judgement.now) step) }
+/// The first word of the item.
+fn kind(item: &Item) -> &'static str
+    ensures { result.now ≡ kind_of (item_of item.now) }
 {
-    let name = judgement.name.as_str();
-    let at = judgement.at;
+    match item {
+        Item::Class(_) => "class",
+        Item::Interface(_) => "interface",
+        Item::Module(_) => "module",
+        Item::UnitItem(_) => "unit",
+        Item::Client(_) => "client",
+        Item::Judge(_) => "judge",
+        Item::Pair(_) => "pair",
+    }
+}
+
+fn name(item: &Item) -> &str
+    ensures { result.now ≡ item_name (item_of item.now) }
+{
+    match item {
+        Item::Class(class) => class.name.as_str(),
+        Item::Interface(interface) => interface.name.as_str(),
+        Item::Module(module) => module.name.as_str(),
+        Item::UnitItem(unit) => unit.name.as_str(),
+        Item::Client(client) => client.name.as_str(),
+        Item::Judge(judgement) => judgement.name.as_str(),
+        Item::Pair(pair) => pair.name.as_str(),
+    }
+}
+
+/// The byte where the item begins.
+fn place(item: &Item) -> u32
+    ensures { result ≡ byte_of (item_of item.now) }
+{
+    match item {
+        Item::Class(class) => class.at,
+        Item::Interface(interface) => interface.at,
+        Item::Module(module) => module.at,
+        Item::UnitItem(unit) => unit.at,
+        Item::Client(client) => client.at,
+        Item::Judge(judgement) => judgement.at,
+        Item::Pair(pair) => pair.at,
+    }
+}
+
+/// The step of this number isn't good, in the derivation for the obligation that stands where the item begins.
+pub fn bad_step(alloc: Global, item: &Item, step: u32) -> Result<Name, Memory>
+    ensures { IfOk result (λ text. text ≡ bad_step_line (item_of item.now) step) }
+{
+    let (kind, name, at) = (kind(item), name(item), place(item));
     let text = format!(in alloc;
-        "refused BadStep obligation 0 step {step} in judge {name} at {at}\n"
+        "refused BadStep obligation 0 step {step} in {kind} {name} at {at}\n"
     )?;
     Ok(Name { text })
 }
 
-/// So many nodes are open after the last step.
-pub fn open_nodes(alloc: Global, judgement: &Judgement, nodes: u64) -> Result<Name, Memory>
-    ensures { IfOk result (λ text. text ≡ open_nodes_line (judgement_of judgement.now) nodes) }
+/// So many nodes are open after the last step for that obligation.
+pub fn open_nodes(alloc: Global, item: &Item, nodes: u64) -> Result<Name, Memory>
+    ensures { IfOk result (λ text. text ≡ open_nodes_line (item_of item.now) nodes) }
 {
-    let name = judgement.name.as_str();
-    let at = judgement.at;
+    let (kind, name, at) = (kind(item), name(item), place(item));
     let text = format!(in alloc;
-        "refused OpenNodes {nodes} obligation 0 in judge {name} at {at}\n"
+        "refused OpenNodes {nodes} obligation 0 in {kind} {name} at {at}\n"
     )?;
     Ok(Name { text })
 }
 
-/// A unit has no obligation of its own.
-pub fn unit(alloc: Global, name: &str) -> Result<Name, Memory>
-    ensures { IfOk result (λ text. text ≡ unit_line name.now) }
+/// The item has so many obligations.
+pub fn item(alloc: Global, item: &Item, obligations: u32) -> Result<Name, Memory>
+    ensures { IfOk result (λ text. text ≡ item_line (item_of item.now) obligations) }
 {
-    let text = format!(in alloc; "unit {name}: 0 obligations\n")?;
+    let (kind, name) = (kind(item), name(item));
+    let text = format!(in alloc; "{kind} {name}: {obligations} obligations\n")?;
     Ok(Name { text })
 }
 
-pub fn judge(alloc: Global, name: &str) -> Result<Name, Memory>
-    ensures { IfOk result (λ text. text ≡ judge_line name.now) }
+/// So many items and obligations are true.
+pub fn yes(alloc: Global, items: u32, obligations: u32) -> Result<Name, Memory>
+    ensures { IfOk result (λ text. text ≡ yes_line items obligations) }
 {
-    let text = format!(in alloc; "judge {name}: 1 obligations\n")?;
+    let text = format!(in alloc; "yes: {items} items, {obligations} obligations\n")?;
     Ok(Name { text })
-}
-
-pub fn yes(alloc: Global) -> Result<Name, Memory>
-    ensures { IfOk result (λ text. text ≡ yes_line) }
-{
-    Name::new(alloc, "yes: 3 items, 1 obligations\n")
 }

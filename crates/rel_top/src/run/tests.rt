@@ -173,10 +173,16 @@ fn puts_one_line(
     Ok(())
 }
 
-/// The bundle is refused, and the proof isn't read.
-fn refuses_bundle(rt: &impl Abort, alloc: Global, case: &str, bundle: &[u8]) -> Result<(), Fail> {
+/// The bundle is refused with this line, and the proof isn't read.
+fn refuses_bundle(
+    rt: &impl Abort,
+    alloc: Global,
+    case: &str,
+    bundle: &[u8],
+    expected: &str,
+) -> Result<(), Fail> {
     let call = checking(bundle, PROOF.as_bytes());
-    puts_one_line(rt, alloc, case, call, NO_BUNDLE)?;
+    puts_one_line(rt, alloc, case, call, expected)?;
     let without_bundle = Call {
         file_fails: &[0],
         ..call
@@ -186,7 +192,7 @@ fn refuses_bundle(rt: &impl Abort, alloc: Global, case: &str, bundle: &[u8]) -> 
         file_fails: &[1],
         ..call
     };
-    puts_one_line(rt, alloc, case, without_proof, NO_BUNDLE)
+    puts_one_line(rt, alloc, case, without_proof, expected)
 }
 
 /// The bundle and the proof are read, and then this comes.
@@ -257,12 +263,15 @@ fn each_fault_ends_the_call(rt: HostRuntime) -> Result<(), Fail> {
     Ok(())
 }
 
-const USAGE_WORDS: [(&str, &[&str]); 9] = [
+const USAGE_WORDS: [(&str, &[&str]); 12] = [
     ("no words", &[]),
     ("one word", &["check"]),
     ("two words", &["check", "sum.rel"]),
     ("four words", &["check", "sum.rel", "sum.json", "sum.json"]),
-    ("another command", &["show", "sum.rel"]),
+    ("another command", &["print", "sum.rel"]),
+    ("one word of show", &["show"]),
+    ("three words of show", &["show", "sum.rel", "sum.json"]),
+    ("show in another order", &["sum.rel", "show"]),
     (
         "another command of three words",
         &["prove", "sum.rel", "sum.json"],
@@ -320,7 +329,8 @@ fn a_refused_bundle_comes_before_a_missing_proof(rt: HostRuntime) -> Result<(), 
         words: &["check", "sum.rel", "none.json"],
         ..call
     };
-    puts_one_line(&rt, rt.alloc(), "no proof", missing, NO_BUNDLE)
+    let expected = "1|refused Syntax at 4\n";
+    puts_one_line(&rt, rt.alloc(), "no proof", missing, expected)
 }
 
 /// The last step of the proof.
@@ -420,24 +430,81 @@ fn a_derivation_that_does_not_fit_is_refused_at_its_step(rt: HostRuntime) -> Res
     Ok(())
 }
 
-/// Pieces of the good bundle, each with a text that in its place makes no tokens or no bundle.
-const ILL_FORMED: [(&str, &str); 15] = [
-    ("( x + 2 )", "( x % 2 )"),
-    ("unit U", "\u{feff}unit U"),
-    ("unit U", "\u{c}unit U"),
-    ("unit U", "/ unit U"),
-    ("2", "170141183460469231731687303715884105728"),
-    ("2", "02"),
-    ("( x + 2 )", "( ( x + 2 ) )"),
-    ("( x + 1 )", "( ( x + 1 ) )"),
-    ("( x + 2 )", "x + 2"),
-    ("( x + 2 )", "( x * 2 )"),
-    ("( x + 2 )", "( x + 2"),
-    ("U", "bi"),
-    ("J", "judge"),
-    ("x", "int"),
-    ("( x =:= x )", "x =:= x"),
+/// The line of a bundle that is refused for this reason, at this byte.
+fn refusal(alloc: Global, why: &str, at: usize) -> Result<String, Fail> {
+    Ok(format!(in alloc; "1|refused {why} at {at}\n")?)
+}
+
+/// Pieces of the good bundle, each with a text that in its place makes no tokens or no bundle, the reason, and how
+/// many bytes into that text the refused token begins.
+const ILL_FORMED: [(&str, &str, &str, usize); 18] = [
+    ("( x + 2 )", "( x % 2 )", "Lexical BadChar", 4),
+    ("unit U", "\u{feff}unit U", "Lexical BadChar", 0),
+    ("unit U", "\u{301}unit U", "Lexical BadChar", 0),
+    ("unit U", "\u{c}unit U", "Lexical BadChar", 0),
+    ("unit U", "/ unit U", "Lexical BadChar", 0),
+    (
+        "2",
+        "170141183460469231731687303715884105728",
+        "Lexical WideLiteral",
+        0,
+    ),
+    ("2", "02", "Lexical BadChar", 1),
+    ("( x + 2 )", "( ( x + 2 ) )", "Syntax", 12),
+    ("( x + 1 )", "( ( x + 1 ) )", "Syntax", 12),
+    ("( x + 2 )", "x + 2", "Syntax", 2),
+    ("( x + 2 )", "( x * 2 )", "Syntax", 4),
+    ("( x + 2 )", "( x + 2", "Syntax", 8),
+    ("U", "bi", "Syntax", 0),
+    ("J", "judge", "Syntax", 6),
+    ("x", "int", "Syntax", 0),
+    ("( x =:= x )", "x =:= x", "Syntax", 0),
+    ("split {", "sync x := call p ( ) ; split {", "Syntax", 21),
+    ("split {", "while true | true { } ; split {", "Syntax", 18),
 ];
+
+fn refuses_ill_formed(rt: &impl Abort, alloc: Global) -> Result<(), Fail> {
+    for (piece, new, why, offset) in ILL_FORMED {
+        let bundle = good_but(alloc, piece, new)?;
+        let bundle = bundle.as_str();
+        let at = bundle.find(new).ok_or("the piece isn't there")?;
+        let expected = refusal(alloc, why, at + offset)?;
+        refuses_bundle(rt, alloc, bundle, bundle.as_bytes(), expected.as_str())?;
+    }
+    Ok(())
+}
+
+/// Whole bundles with the ends of their calls. The last two differ in a doubled parenthesis.
+const TEXTS: [(&str, &str); 9] = [
+    ("", NO_BUNDLE),
+    ("\u{feff}", "1|refused Lexical BadChar at 0\n"),
+    ("// %", NO_BUNDLE),
+    ("class C { } \r interface", "1|refused Syntax at 23\n"),
+    ("unit U { } %", "1|refused Lexical BadChar at 11\n"),
+    ("unit globally { } class unit_ { }", NO_BUNDLE),
+    (
+        "unit U { proc p ( ) : int requires true ensures true writes { } \
+        { result := 170141183460469231731687303715884105728 ; } }",
+        "1|refused Lexical WideLiteral at 76\n",
+    ),
+    (
+        "unit U { proc p ( ) : int requires true ensures true writes { } \
+        { result := ( ( 1 + 1 ) ) ; } }",
+        "1|refused Syntax at 88\n",
+    ),
+    (
+        "unit U { proc p ( ) : int requires true ensures true writes { } \
+        { result := ( 1 + 1 ) ; } }",
+        NO_BUNDLE,
+    ),
+];
+
+fn refuses_texts(rt: &impl Abort, alloc: Global) -> Result<(), Fail> {
+    for (text, expected) in TEXTS {
+        refuses_bundle(rt, alloc, text, text.as_bytes(), expected)?;
+    }
+    Ok(())
+}
 
 /// Pieces of the good bundle, each with a text that leaves the bundle untyped.
 const UNTYPED: [(&str, &str); 23] = [
@@ -514,7 +581,7 @@ const OTHER_FORMS: [(&str, &str); 17] = [
 fn are_refused(rt: &impl Abort, alloc: Global, changes: &[(&str, &str)]) -> Result<(), Fail> {
     for (piece, new) in changes {
         let bundle = good_but(alloc, piece, new)?;
-        refuses_bundle(rt, alloc, bundle.as_str(), bundle.as_bytes())?;
+        refuses_bundle(rt, alloc, bundle.as_str(), bundle.as_bytes(), NO_BUNDLE)?;
     }
     Ok(())
 }
@@ -528,11 +595,11 @@ fn only_the_first_unit_stands_on_the_left(rt: HostRuntime) -> Result<(), Fail> {
         "{ x := ( x + 1 ) ; x := ( x + 1 ) ; } { x := ( x + 2 ) ; }",
         "{ x := ( x + 2 ) ; } { x := ( x + 1 ) ; x := ( x + 1 ) ; }",
     )?;
-    refuses_bundle(&rt, rt.alloc(), "turned split", turned.as_bytes())?;
+    refuses_bundle(&rt, alloc, "turned split", turned.as_bytes(), NO_BUNDLE)?;
     let turned = replaced(alloc, turned.as_str(), "U . p ~ V . q", "V . q ~ U . p")?;
-    refuses_bundle(&rt, rt.alloc(), "turned judgement", turned.as_bytes())?;
+    refuses_bundle(&rt, alloc, "turned judgement", turned.as_bytes(), NO_BUNDLE)?;
     let turned = format!(in alloc; "{SECOND}{FIRST}{JUDGE}")?;
-    refuses_bundle(&rt, rt.alloc(), "turned units", turned.as_bytes())
+    refuses_bundle(&rt, alloc, "turned units", turned.as_bytes(), NO_BUNDLE)
 }
 
 #[test]
@@ -550,28 +617,44 @@ fn other_items_are_refused(rt: HostRuntime) -> Result<(), Fail> {
     ];
     for [first, second, third, fourth] in cases {
         let bundle = format!(in rt.alloc(); "{first}{second}{third}{fourth}")?;
-        refuses_bundle(&rt, rt.alloc(), bundle.as_str(), bundle.as_bytes())?;
+        let text = bundle.as_str();
+        refuses_bundle(&rt, rt.alloc(), text, text.as_bytes(), NO_BUNDLE)?;
     }
     Ok(())
 }
 
-/// Each front of the good bundle that lacks the last brace, from the empty text on.
+/// Each front of the good bundle that lacks the last brace, from the empty text on. Only where an item ends does it
+/// stand for a bundle.
 #[test]
 fn a_text_that_is_cut_off_is_refused(rt: HostRuntime) -> Result<(), Fail> {
     let bundle = good(rt.alloc())?;
+    let ends = [0, 122, 123, 228, 229];
     for len in 0..367 {
         let front = bundle.as_bytes().get(..len).ok_or("a short text")?;
         let call = checking(front, PROOF.as_bytes());
-        assert_eq!(rt; outcome(rt.alloc(), call)?.as_str(), NO_BUNDLE, "{len}");
+        let end = outcome(rt.alloc(), call)?;
+        if ends.contains(&len) {
+            assert_eq!(rt; end.as_str(), NO_BUNDLE, "{len}");
+        } else {
+            assert!(rt; end.as_str().starts_with("1|refused Syntax at "), "{len}");
+        }
     }
+    let call = checking(&bundle.as_bytes()[..119], PROOF.as_bytes());
+    assert_eq!(rt;
+        outcome(rt.alloc(), call)?.as_str(),
+        "1|refused Syntax at 119\n"
+    );
     Ok(())
 }
 
 /// Bytes that aren't UTF-8, in the bundle and in the proof file.
 fn refuses_other_bytes(rt: &impl Abort, alloc: Global) -> Result<(), Fail> {
+    let line = "1|refused NotUtf8 at 0\n";
+    refuses_bundle(rt, alloc, "one byte", &[255], line)?;
     let mut bytes = Vec::from_slice(alloc, good(alloc)?.as_bytes())?;
     bytes.extend_from_slice(b"// \xff")?;
-    refuses_bundle(rt, alloc, "bundle", bytes.as_slice())?;
+    let line = "1|refused NotUtf8 at 371\n";
+    refuses_bundle(rt, alloc, "bundle", bytes.as_slice(), line)?;
     let mut bytes = Vec::from_slice(alloc, PROOF.as_bytes())?;
     bytes.push(255)?;
     let bundle = good(alloc)?;
@@ -592,15 +675,28 @@ fn nested(alloc: Global, front: &str, core: &str, back: &str, count: u32) -> Res
     Ok(text)
 }
 
-/// The split has depth 1 and its command depth 2, so the whole expression has depth 3.
+/// A command of a body has depth 1, and one of a split depth 2. So an expression that is 63 deep is refused in the
+/// split, at its innermost name, and one that is 65 deep in the body, at its innermost parenthesis.
 #[test]
 fn an_expression_in_a_split_is_at_most_62_deep(rt: HostRuntime) -> Result<(), Fail> {
     let alloc = rt.alloc();
-    for (depth, expected) in [(62, YES), (63, NO_BUNDLE), (65, NO_BUNDLE)] {
+    for depth in [62, 63, 65] {
         let sum = nested(alloc, "( ", "( x + 2 )", " + 0 )", depth - 2)?;
         let bundle = good_but(alloc, "( x + 2 )", sum.as_str())?;
+        let bundle = bundle.as_str();
+        let first = bundle.find("( x + 2 )").ok_or("no sum")?;
+        let last = bundle.rfind("( x + 2 )").ok_or("no sum")?;
+        let expected = match depth {
+            62 => String::from_str(alloc, YES)?,
+            63 => refusal(alloc, "TooDeep", last + 2)?,
+            _ => refusal(alloc, "TooDeep", first)?,
+        };
         let call = checking(bundle.as_bytes(), PROOF.as_bytes());
-        assert_eq!(rt; outcome(alloc, call)?.as_str(), expected, "{depth}");
+        assert_eq!(rt;
+            outcome(alloc, call)?.as_str(),
+            expected.as_str(),
+            "{depth}"
+        );
     }
     Ok(())
 }
@@ -614,22 +710,42 @@ fn with_globals(alloc: Global, count: u32) -> Result<String, Fail> {
     good_but(alloc, "U {", globals.as_str())
 }
 
-/// An element over the limit of a row.
+/// The global that is one too many.
 fn refuses_a_long_row(rt: &impl Abort, alloc: Global) -> Result<(), Fail> {
     let bundle = with_globals(alloc, 16_384)?;
-    refuses_bundle(rt, alloc, "16,385 globals", bundle.as_bytes())
+    let bundle = bundle.as_str();
+    let at = bundle.find("global x").ok_or("no x")?;
+    let expected = refusal(alloc, "TooMany", at)?;
+    refuses_bundle(
+        rt,
+        alloc,
+        "16,385 globals",
+        bundle.as_bytes(),
+        expected.as_str(),
+    )
 }
 
-/// What follows the first member is the repetition that has a limit.
+/// What follows the first member is the repetition that has a limit. The comma of a member that is one too many is
+/// refused.
 #[test]
 fn a_list_has_at_most_16385_members(rt: HostRuntime) -> Result<(), Fail> {
     let alloc = rt.alloc();
-    for (count, expected) in [(16_384, YES), (16_385, NO_BUNDLE)] {
+    for count in [16_384, 16_385] {
         let more = nested(alloc, ", x ", "", "", count)?;
         let writes = format!(in alloc; "writes {{ x {more}}}")?;
         let bundle = good_but(alloc, "writes { x }", writes.as_str())?;
+        let bundle = bundle.as_str();
+        let last = bundle.find(", x }").ok_or("no list")?;
+        let expected = match count {
+            16_384 => String::from_str(alloc, YES)?,
+            _ => refusal(alloc, "TooMany", last)?,
+        };
         let call = checking(bundle.as_bytes(), PROOF.as_bytes());
-        assert_eq!(rt; outcome(alloc, call)?.as_str(), expected, "{count}");
+        assert_eq!(rt;
+            outcome(alloc, call)?.as_str(),
+            expected.as_str(),
+            "{count}"
+        );
     }
     Ok(())
 }
@@ -650,11 +766,12 @@ fn a_bundle_has_at_most_4194304_bytes(rt: HostRuntime) -> Result<(), Fail> {
     let call = checking(bundle.as_slice(), PROOF.as_bytes());
     assert_eq!(rt; outcome(rt.alloc(), call)?.as_str(), YES);
     let bundle = with_spaces(rt.alloc(), 4_193_937)?;
-    refuses_bundle(&rt, rt.alloc(), "4,194,305 bytes", bundle.as_slice())
+    let line = "1|refused TooLarge bundle\n";
+    refuses_bundle(&rt, rt.alloc(), "4,194,305 bytes", bundle.as_slice(), line)
 }
 
 /// Pieces of the good bundle, each with a text that leaves it as true.
-const UNUSUAL: [(&str, &str); 16] = [
+const UNUSUAL: [(&str, &str); 19] = [
     ("; }\n", "; }"),
     ("; }\n", "; } // the end"),
     ("; }\n", "; }//"),
@@ -667,6 +784,9 @@ const UNUSUAL: [(&str, &str); 16] = [
     ("x", "größe"),
     ("x", "_"),
     ("x", "中2"),
+    ("x", "x\u{301}"),
+    ("x", "globalx"),
+    ("x", "int_"),
     ("writes { x }", "writes { x , x }"),
     ("global x", "global y : int ; global x"),
     (
@@ -766,7 +886,8 @@ fn reads_unusual_proof_files(rt: &impl Abort, alloc: Global) -> Result<(), Fail>
 #[test]
 fn each_reason_has_its_line(rt: HostRuntime) -> Result<(), Fail> {
     let alloc = rt.alloc();
-    are_refused(&rt, alloc, &ILL_FORMED)?;
+    refuses_ill_formed(&rt, alloc)?;
+    refuses_texts(&rt, alloc)?;
     are_refused(&rt, alloc, &UNTYPED)?;
     are_refused(&rt, alloc, &OTHER_FORMS)?;
     refuses_other_bytes(&rt, alloc)?;
@@ -774,4 +895,78 @@ fn each_reason_has_its_line(rt: HostRuntime) -> Result<(), Fail> {
     reads_unusual_bundles(&rt, alloc)?;
     refuses_other_proof_files(&rt, alloc)?;
     reads_unusual_proof_files(&rt, alloc)
+}
+
+/// Items of all kinds with each production of the grammar, in the form that is printed.
+const WHOLE: &str = "class C { f : int ; next : C ; all_of : rgn ; }\n\
+    class D { }\n\
+    interface I { global g : rgn ; global h : int ; boundary { g @ f , { null } @ next } init ensures ( \
+    g = empty ) writes { g , h } method m ( x : C , n : int ) : int requires ( x in g ) ensures ( result \
+    = old ( h ) ) writes { g @ f } ; method k ( ) : rgn requires true ensures false writes { } ; }\n\
+    module M : I { global own : C ; invariant all x : C in g { ( 0 <= ( x . f ) ) } ; init { var y : int \
+    ; g := empty ; } method m { result := x . f ; } method k { result := g ; } }\n\
+    unit U { global x : int ; proc p ( n : int , r : rgn ) : int requires [ true and [ ( n < 3 ) or [ \
+    not ( n = 4 ) implies ( r sub alloc ) ] ] ] ensures some c : C in ( r of C ) { ( ( c . f ) = ( 2 * n \
+    ) ) } writes { x } { var c : C ; skip ; c := new C ; c . f := ( ( n + 1 ) - 2 ) ; n := c . f ; x := \
+    call p ( n , ( ( r union { c } ) meet ( r minus ( r @ next ) ) ) ) ; if ( n = 0 ) { skip ; } else { \
+    } ; while ( n < 9 ) inv true { n := ( n + 1 ) ; } ; } }\n\
+    client K : I { global mine : C ; proc main ( ) : int requires true ensures true writes { mine } { \
+    result := call m ( mine , 170141183460469231731687303715884105727 ) ; } }\n\
+    judge J : U . p ~ U . p requires [ ( n =:= n ) and [ left ( n = 1 ) or [ right true implies both \
+    false ] ] ] ensures eventually [ agree r @ f and not all left c : C in r { some right d : C in r { ( \
+    c =:= d ) } } ] bi { split { skip ; } { } ; sync skip ; sync x := call p ( n , r ) using J ; if true \
+    | false { note true ; } else { link c | c ; } ; while ( n < 1 ) | ( n < 2 ) inv true | false rel ( n \
+    =:= n ) align true | false { } ; }\n\
+    judge L : U . p ~ U . p requires true ensures false weave { at 0 seq 1 2 ; at 0 1 sync ; at 3 call J \
+    ; at 4 if ; at 5 while true | false | true ; at 6 link x | y ; at 7 note true ; at 8 4294967295 drop \
+    ; }\n\
+    pair P : M ~ M { coupling ( g =:= g ) ; init weave { } method m bi { sync result := x . f ; } method \
+    k bi { } }\n";
+
+/// What `show` comes to. The printed form is shown as it is, and so is a text that differs from it in what separates
+/// tokens, and in a number of a weaving that is too great.
+#[test]
+fn a_bundle_is_printed_in_one_form(rt: HostRuntime) -> Result<(), Fail> {
+    let alloc = rt.alloc();
+    let expected = format!(in alloc; "0|{WHOLE}")?;
+    let blanks = replaced(alloc, WHOLE, " ", " // a note\n\t")?;
+    let great = replaced(alloc, WHOLE, "4294967295", "99999999999")?;
+    for text in [WHOLE, blanks.as_str(), great.as_str()] {
+        let call = Call {
+            words: &["show", "sum.rel"],
+            ..checking(text.as_bytes(), b"")
+        };
+        assert_eq!(rt; outcome(alloc, call)?.as_str(), expected.as_str());
+        let failing = Call {
+            sink_fails: &[1],
+            ..call
+        };
+        let first = "4|class C { f : int ; next : C ; all_of : rgn ; }\n";
+        assert_eq!(rt; outcome(alloc, failing)?.as_str(), first);
+    }
+    Ok(())
+}
+
+/// What isn't a bundle is refused as `check` refuses it, and a bundle that can't be judged is printed.
+#[test]
+fn show_refuses_a_text_as_check_does(rt: HostRuntime) -> Result<(), Fail> {
+    let alloc = rt.alloc();
+    for (text, expected) in TEXTS {
+        let call = Call {
+            words: &["show", "sum.rel"],
+            ..checking(text.as_bytes(), b"")
+        };
+        let end = outcome(alloc, call)?;
+        if expected == NO_BUNDLE {
+            assert!(rt; end.as_str().starts_with("0|"), "{text}");
+        } else {
+            assert_eq!(rt; end.as_str(), expected, "{text}");
+        }
+    }
+    let call = Call {
+        words: &["show", "none.rel"],
+        ..checking(b"", b"")
+    };
+    assert_eq!(rt; outcome(alloc, call)?.as_str(), "3|file fault: none.rel\n");
+    Ok(())
 }

@@ -1,8 +1,9 @@
-use Rattle.std.proofs.Common.{sym, subst}
-use Rattle.straight_linking.specs.Parts.{parts_view}
-use Rattle.rel_top.specs.Judged.{IsObligation}
-use Rattle.rel_top.proofs.Verdicts.{is_obligation}
+use Rattle.rel_lang.specs.View.{bundle_of}
+use Rattle.rel_top.proofs.Verdicts.{found_some, found_none}
 use Rattle.rel_top.proofs.check.boxed_obligation.Goals as goal
 
-pub returns : goal.returns
-returns c = subst (λ q. IsObligation q (parts_view c.args.parts.now)) (sym c.in_ok-boxed.ensures) (is_obligation _ _ c.in_ok-sequent.ensures.value c.in_ok-sequent.ensures.enough)
+pub returns-in_ok-new-in-Some : goal.returns-in_ok-new-in-Some
+returns-in_ok-new-in-Some c = found_some (bundle_of c.args.bundle.now) _ _ _ c.in_ok-sequent.ensures c.in-Some.is c.in_ok-new-in-Some.ensures
+
+pub returns-in-None : goal.returns-in-None
+returns-in-None c = found_none (bundle_of c.args.bundle.now) _ c.in_ok-sequent.ensures c.in-None.is

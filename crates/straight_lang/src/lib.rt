@@ -1,9 +1,0 @@
-//! The trees of the language, and what they mean: its definitions are in `specs/`.
-#![tactic(auto)]
-
-pub mod biprogram;
-pub mod bundle;
-pub mod command;
-pub mod expr;
-pub mod formula;
-pub mod relation;

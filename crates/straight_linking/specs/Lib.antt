@@ -1,4 +1,0 @@
-pub mod Form
-pub mod Obligation
-pub mod Parts
-pub mod Scope
