@@ -1,11 +1,13 @@
 -- What is written of a bicommand doesn't depend on its depth, nor on its number in a block.
-use Rattle.std.proofs.Common.{◌≡◌, ℕ, suc, ◌+◌, List, [], ◌∷◌, ◌++◌, map, refl, sym, ap, ◌∙◌, append_assoc, arith, rules}
+use Rattle.std.proofs.Common.{◌≡◌, ℕ, suc, List, [], ◌∷◌, ◌++◌, map, refl, sym, ap, ◌∙◌, append_assoc, arith, rules}
 use Rattle.std.specs.Prelude.{codes}
-use Rattle.rel_lang.specs.Syntax.{Command, At, BiLoop, BiCommand, BiAt, BiForm, Split, Sync, SyncCall, BiIf, BiWhile, Link, Note, BiBlock, BiEnd, BiThen}
-use Rattle.rel_lang.specs.Text.{word, element, show_command, show_bicommand, show_loop, show_biform, show_bicommands}
-use Rattle.rel_lang.specs.View.{biform_of, bicommand_of, biblock_of, biblock_from}
+use Rattle.rel_lang.specs.Syntax.{Command, At, BiLoop, BiAt, BiForm, Split, Sync, SyncCall, BiIf, BiWhile, Link, Note, BiBlock, BiEnd, BiThen}
+use Rattle.rel_lang.specs.Text.{word, element, show_command, show_bicommand, show_biblock, show_loop, show_biform, show_bicommands}
+use Rattle.rel_lang.specs.View.{formula_of, loop_of, biform_of, bicommand_of, biblock_of, biblock_from}
 use Rattle.rel_lang.specs.declared.biprogram.BiCommand as C
-use Rattle.rel_lang.specs.declared.biprogram.BiForm.{the_lemmas}
+use Rattle.rel_lang.specs.declared.biprogram.BiForm as B
+use Rattle.rel_lang.specs.declared.biprogram.BiLoop as L
+use Rattle.rel_lang.specs.declared.formula.Formula as P
 use Rattle.rel_show.specs.Written.{written}
 use Rattle.rel_show.proofs.Writing.{written-append, written-element, written-begins, written-tree, writing}
 use Rattle.rel_show.proofs.Repetitions.{IsByElement}
@@ -43,20 +45,20 @@ mutual
 
 -- what is in a bicommand is one deeper
 pub command_within : (k : Command) → written (show_command 2 k) ≡ written (show_command 1 k)
-pub command_within k = same_command k 2 1
+command_within k = same_command k 2 1
 
 pub loop_within : (l : BiLoop) → written (show_loop 2 l) ≡ written (show_loop 1 l)
-pub loop_within l = same_loop l 2 1
+loop_within l = same_loop l 2 1
 
 pub biblock_within : (b : BiBlock) → written (show_bicommands 2 1 b) ≡ written (show_bicommands 1 1 b)
-pub biblock_within b = same_bicommands b 2 1 1 1
+biblock_within b = same_bicommands b 2 1 1 1
 
-pub biblock_is : (cs : List C.BiCommand) → biblock_from (map bicommand_of cs) ≡ biblock_of cs
+biblock_is : (cs : List C.BiCommand) → biblock_from (map bicommand_of cs) ≡ biblock_of cs
 biblock_is [] = refl
 biblock_is (c ∷ cs) = ap (λ b. BiThen (bicommand_of c) b) (biblock_is cs)
 
 bicommand_is : (c : C.BiCommand) → bicommand_of c ≡ BiAt c.at (biform_of c.form)
-bicommand_is c = search (rules, the_lemmas)
+bicommand_is c = search (rules, B.the_lemmas)
 
 written_bicommand : (c : C.BiCommand) → written (show_bicommand 1 (bicommand_of c)) ≡ written (show_biform 1 (biform_of c.form))
 written_bicommand c =
@@ -71,4 +73,15 @@ by_bicommand = record {
       ∙ sym (append_assoc (written (show_biform 1 (biform_of c.form))) (59 ∷ 32 ∷ []) (written (show_bicommands 1 (suc n) (biblock_of cs))));
 }
 
-pub ruleset biprograms = (writing, formula_within, rel_within, block_within, command_within, loop_within, biblock_within, biblock_is, the_lemmas)
+-- how an `if` and a `while` are read
+pub if_is : (p q : P.Formula) (a b : List C.BiCommand) → biform_of (B.If p q a b) ≡ BiIf (formula_of p) (formula_of q) (biblock_of a) (biblock_of b)
+if_is p q a b = search (rules, B.the_lemmas, biblock_is)
+
+pub while_is : (l : L.BiLoop) (b : List C.BiCommand) → biform_of (B.While l b) ≡ BiWhile (loop_of l) (biblock_of b)
+while_is l b = search (rules, B.the_lemmas, biblock_is)
+
+pub written_while : (f : B.BiForm) (l : L.BiLoop) (b : List C.BiCommand) → f ≡ B.While l b
+    → written (show_loop 1 (loop_of l) ++ show_biblock 1 (biblock_of b)) ≡ written (show_biform 1 (biform_of f))
+written_while f l b is = same_biform (BiWhile (loop_of l) (biblock_of b)) 0 1 ∙ sym (ap (λ g. written (show_biform 1 g)) (ap biform_of is ∙ while_is l b))
+
+pub ruleset biprograms = (writing, formula_within, rel_within, block_within, command_within, loop_within, biblock_within, if_is, while_is, B.the_lemmas)

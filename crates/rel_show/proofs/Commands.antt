@@ -1,7 +1,7 @@
 -- What is written of a command doesn't depend on its depth, nor on its number in a block.
-use Rattle.std.proofs.Common.{◌≡◌, ℕ, suc, ◌+◌, List, [], ◌∷◌, ◌++◌, refl, sym, ap, ◌∙◌, append_assoc, arith, rules}
+use Rattle.std.proofs.Common.{◌≡◌, ℕ, suc, List, [], ◌∷◌, ◌++◌, refl, sym, ap, ◌∙◌, append_assoc, arith, rules}
 use Rattle.std.specs.Prelude.{codes}
-use Rattle.rel_lang.specs.Syntax.{Expression, Command, At, Form, Skip, Assign, Load, Store, New, Call, If, While, Block, End, Then}
+use Rattle.rel_lang.specs.Syntax.{Expression, At, Form, Skip, Assign, Load, Store, New, Call, If, While, Block, End, Then}
 use Rattle.rel_lang.specs.Text.{word, element, listed, behind, show_expression, show_form, show_command, show_commands}
 use Rattle.rel_lang.specs.View.{formula_of, form_of, command_of, block_of}
 use Rattle.rel_lang.specs.declared.command.Command as C

@@ -4,7 +4,7 @@ ghost use Rattle.std.specs.Prelude.{◌≡◌, ℕ, [], ◌∷◌, ◌++◌, map
 ghost use Rattle.rel_lang.specs.Syntax as syntax;
 ghost use Rattle.rel_lang.specs.Text.{word, named, counted, sides, show_rel, show_loop};
 ghost use Rattle.rel_lang.specs.Text.{show_biform, show_bicommands, show_biblock};
-ghost use Rattle.rel_lang.specs.Text.{show_act, show_weave_step, show_align};
+ghost use Rattle.rel_lang.specs.Text.{show_act, show_place_numbers, show_weave_step, show_align};
 ghost use Rattle.rel_lang.specs.View.{rel_of, loop_of, biform_of, biblock_of, act_of, weave_step_of, align_of};
 ghost use Rattle.rel_show.specs.Written.{written};
 
@@ -162,7 +162,7 @@ impl Element for Steps {
     #[tactic(auto, using(crate::proofs::Repetitions::places))]
     fn show(&self, out: &mut Vec<u8>, step: &WeaveStep) -> Result<(), Memory> {
         show_word(out, "at")?;
-        show_each(out, &Numbers, step.place.as_slice())?;
+        show_each(out, &Numbers, &step.place)?;
         show_act(out, &step.act)
     }
 }
@@ -177,7 +177,7 @@ fn show_woven(out: &mut Vec<u8>, steps: &List<WeaveStep>) -> Result<(), Memory>
     };
     show_word(out, "weave")?;
     show_word(out, "{")?;
-    show_each(out, &step, steps.as_slice())?;
+    show_each(out, &step, steps)?;
     show_word(out, "}")
 }
 

@@ -141,6 +141,6 @@ fn show_call(
     show_word(out, ":=")?;
     show_title(out, "call", procedure)?;
     show_word(out, "(")?;
-    show_listed(out, &Arguments, arguments.as_slice())?;
+    show_listed(out, &Arguments, arguments)?;
     show_word(out, ")")
 }

@@ -3,10 +3,10 @@
 ghost use Rattle.std.specs.Prelude.{◌≡◌, ℕ, [], ◌∷◌, ◌++◌, map, OnOk, codes};
 ghost use Rattle.rel_lang.specs.Syntax as syntax;
 ghost use Rattle.rel_lang.specs.Syntax.{Word};
-ghost use Rattle.rel_lang.specs.Text.{word, braced, behind, ended, spaced, show_decl, show_globals, show_params, show_place};
+ghost use Rattle.rel_lang.specs.Text.{word, named, begins, braced, listed, behind, ended, spaced, show_decl, show_globals, show_params, show_place, show_align};
 ghost use Rattle.rel_lang.specs.Text.{show_effect, show_writes, show_clause, show_rel_clause, show_spec};
-ghost use Rattle.rel_lang.specs.Text.{show_body, show_head, show_proc, show_sig, show_class};
-ghost use Rattle.rel_lang.specs.Text.{show_boundary, show_interface, show_method, show_module, show_unit};
+ghost use Rattle.rel_lang.specs.Text.{show_locals, show_body, show_head, show_proc, show_sig, show_class};
+ghost use Rattle.rel_lang.specs.Text.{show_interface, show_method, show_module, show_unit};
 ghost use Rattle.rel_lang.specs.Text.{show_client, show_subject, show_judgement, show_pair_method, show_pair};
 ghost use Rattle.rel_lang.specs.Text.{show_item, repeated};
 ghost use Rattle.rel_lang.specs.View.{type_of, decl_of, place_of, effect_of, clause_of, rel_clause_of, spec_of};
@@ -59,7 +59,7 @@ fn show_fields(out: &mut Vec<u8>, fields: &List<Decl>) -> Result<(), Memory>
         element: &Decls,
         word: ";",
     };
-    show_each(out, &field, fields.as_slice())
+    show_each(out, &field, fields)
 }
 
 /// Each declaration behind the word, with a semicolon behind it.
@@ -75,7 +75,7 @@ fn show_decls(out: &mut Vec<u8>, word: &str, decls: &List<Decl>) -> Result<(), M
         word,
         element: &decl,
     };
-    show_each(out, &element, decls.as_slice())
+    show_each(out, &element, decls)
 }
 
 // ---- effects, clauses and specifications
@@ -129,7 +129,7 @@ fn show_writes(out: &mut Vec<u8>, writes: &List<Effect>) -> Result<(), Memory>
 {
     show_word(out, "writes")?;
     show_word(out, "{")?;
-    show_listed(out, &Effects, writes.as_slice())?;
+    show_listed(out, &Effects, writes)?;
     show_word(out, "}")
 }
 
@@ -177,7 +177,7 @@ fn show_params(out: &mut Vec<u8>, params: &List<Decl>) -> Result<(), Memory>
     ensures { OnOk result (out.new.items ≡ out.old.items ++ written (show_params (map decl_of params.now))) }
 {
     show_word(out, "(")?;
-    show_listed(out, &Decls, params.as_slice())?;
+    show_listed(out, &Decls, params)?;
     show_word(out, ")")
 }
 
@@ -251,15 +251,25 @@ fn show_class(out: &mut Vec<u8>, c: &Class) -> Result<(), Memory>
 
 #[tactic(auto, using(crate::proofs::Writing::writing))]
 fn show_boundary(out: &mut Vec<u8>, places: &List<Place>) -> Result<(), Memory>
-    ensures { OnOk result (out.new.items ≡ out.old.items ++ written (show_boundary 0 (map place_of places.now))) }
+    ensures { OnOk result (out.new.items ≡ out.old.items
+        ++ written (word (codes "boundary") ∷ braced (listed show_place (map place_of places.now)))) }
 {
     show_word(out, "boundary")?;
     show_word(out, "{")?;
-    show_listed(out, &Places, places.as_slice())?;
+    show_listed(out, &Places, places)?;
     show_word(out, "}")
 }
 
+/// What the method `init` promises.
 #[tactic(auto, using(crate::proofs::Writing::writing))]
+fn show_promise(out: &mut Vec<u8>, c: &Clause) -> Result<(), Memory>
+    ensures { OnOk result (out.new.items ≡ out.old.items
+        ++ written (word (codes "init") ∷ word (codes "ensures") ∷ show_clause (clause_of c.now))) }
+{
+    show_word(out, "init")?;
+    show_clause(out, "ensures", c)
+}
+
 fn show_interface(out: &mut Vec<u8>, i: &Interface) -> Result<(), Memory>
     ensures { OnOk result (out.new.items ≡ out.old.items ++ written (show_interface (interface_of i.now))) }
 {
@@ -267,10 +277,9 @@ fn show_interface(out: &mut Vec<u8>, i: &Interface) -> Result<(), Memory>
     show_word(out, "{")?;
     show_decls(out, "global", &i.globals)?;
     show_boundary(out, &i.boundary)?;
-    show_word(out, "init")?;
-    show_clause(out, "ensures", &i.init_ensures)?;
+    show_promise(out, &i.init_ensures)?;
     show_writes(out, &i.init_writes)?;
-    show_each(out, &Sigs, i.methods.as_slice())?;
+    show_each(out, &Sigs, &i.methods)?;
     show_word(out, "}")
 }
 
@@ -292,19 +301,36 @@ impl Element for Methods {
     }
 }
 
+/// The word of a module or a client, its name and its interface.
 #[tactic(auto, using(crate::proofs::Writing::writing))]
+fn show_part(out: &mut Vec<u8>, text: &str, name: &Name, interface: &Name) -> Result<(), Memory>
+    ensures { OnOk result (out.new.items ≡ out.old.items
+        ++ written (word text.now ∷ named name.now ∷ word (codes ":") ∷ named interface.now ∷ [])) }
+{
+    show_title(out, text, name)?;
+    show_title(out, ":", interface)
+}
+
+/// The body of a module's `init`, behind a semicolon.
+#[tactic(auto, using(crate::proofs::Writing::writing))]
+fn show_init(out: &mut Vec<u8>, b: &Body) -> Result<(), Memory>
+    ensures { OnOk result (out.new.items ≡ out.old.items
+        ++ written (word (codes ";") ∷ begins b.now.at (word (codes "init") ∷ show_body (body_of b.now)))) }
+{
+    show_word(out, ";")?;
+    show_word(out, "init")?;
+    show_body(out, b)
+}
+
 fn show_module(out: &mut Vec<u8>, m: &Module) -> Result<(), Memory>
     ensures { OnOk result (out.new.items ≡ out.old.items ++ written (show_module (module_of m.now))) }
 {
-    show_title(out, "module", &m.name)?;
-    show_title(out, ":", &m.interface)?;
+    show_part(out, "module", &m.name, &m.interface)?;
     show_word(out, "{")?;
     show_decls(out, "global", &m.globals)?;
     show_clause(out, "invariant", &m.invariant)?;
-    show_word(out, ";")?;
-    show_word(out, "init")?;
-    show_body(out, &m.init)?;
-    show_each(out, &Methods, m.methods.as_slice())?;
+    show_init(out, &m.init)?;
+    show_each(out, &Methods, &m.methods)?;
     show_word(out, "}")
 }
 
@@ -316,7 +342,7 @@ fn show_members(out: &mut Vec<u8>, globals: &List<Decl>, procs: &List<Proc>) -> 
 {
     show_word(out, "{")?;
     show_decls(out, "global", globals)?;
-    show_each(out, &Procs, procs.as_slice())?;
+    show_each(out, &Procs, procs)?;
     show_word(out, "}")
 }
 
@@ -332,8 +358,7 @@ fn show_unit(out: &mut Vec<u8>, u: &UnitItem) -> Result<(), Memory>
 fn show_client(out: &mut Vec<u8>, c: &Client) -> Result<(), Memory>
     ensures { OnOk result (out.new.items ≡ out.old.items ++ written (show_client (client_of c.now))) }
 {
-    show_title(out, "client", &c.name)?;
-    show_title(out, ":", &c.interface)?;
+    show_part(out, "client", &c.name, &c.interface)?;
     show_members(out, &c.globals, &c.procs)
 }
 
@@ -346,7 +371,6 @@ fn show_subject(out: &mut Vec<u8>, text: &str, s: &(Name, Name)) -> Result<(), M
     show_title(out, ".", &s.1)
 }
 
-#[tactic(auto, using(crate::proofs::Writing::writing))]
 fn show_judgement(out: &mut Vec<u8>, j: &Judgement) -> Result<(), Memory>
     ensures { OnOk result (out.new.items ≡ out.old.items ++ written (show_judgement (judgement_of j.now))) }
 {
@@ -376,19 +400,36 @@ impl Element for Aligned {
     }
 }
 
+/// The word of a pair, its name and the names of its modules.
 #[tactic(auto, using(crate::proofs::Writing::writing))]
-fn show_pair(out: &mut Vec<u8>, p: &Pair) -> Result<(), Memory>
-    ensures { OnOk result (out.new.items ≡ out.old.items ++ written (show_pair (pair_of p.now))) }
+fn show_names(out: &mut Vec<u8>, p: &Pair) -> Result<(), Memory>
+    ensures { let n = p.now in OnOk result (out.new.items ≡ out.old.items
+        ++ written (word (codes "pair") ∷ named n.name ∷ word (codes ":") ∷ named n.left ∷ word (codes "~") ∷ named n.right ∷ [])) }
 {
     show_title(out, "pair", &p.name)?;
     show_title(out, ":", &p.left)?;
-    show_title(out, "~", &p.right)?;
-    show_word(out, "{")?;
-    show_rel_clause(out, "coupling", &p.coupling)?;
+    show_title(out, "~", &p.right)
+}
+
+/// How the inits of two modules are aligned, behind a semicolon.
+#[tactic(auto, using(crate::proofs::Writing::writing))]
+fn show_first(out: &mut Vec<u8>, init: &(u32, Align)) -> Result<(), Memory>
+    ensures { OnOk result (out.new.items ≡ out.old.items
+        ++ written (word (codes ";") ∷ begins init.now.0 (word (codes "init") ∷ show_align (align_of init.now.1)))) }
+{
     show_word(out, ";")?;
     show_word(out, "init")?;
-    show_align(out, &p.init.1)?;
-    show_each(out, &Aligned, p.methods.as_slice())?;
+    show_align(out, &init.1)
+}
+
+fn show_pair(out: &mut Vec<u8>, p: &Pair) -> Result<(), Memory>
+    ensures { OnOk result (out.new.items ≡ out.old.items ++ written (show_pair (pair_of p.now))) }
+{
+    show_names(out, p)?;
+    show_word(out, "{")?;
+    show_rel_clause(out, "coupling", &p.coupling)?;
+    show_first(out, &p.init)?;
+    show_each(out, &Aligned, &p.methods)?;
     show_word(out, "}")
 }
 

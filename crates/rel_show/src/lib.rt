@@ -24,8 +24,50 @@ pub fn show(alloc: Global, b: &Bundle) -> Result<Vec<u8>, Memory>
     ensures { IfOk result (λ text. text.items ≡ shown (bundle_of b.now).items) }
 {
     let mut out = Vec::new(alloc);
-    for item in &b.items.items {
+    for item in b.items.as_slice() {
         show_line(&mut out, item)?;
     }
     Ok(out)
+}
+
+#[cfg(test)]
+mod tests {
+    use super::*;
+    use rel_lang::bundle::{Class, Decl, Item};
+    use rel_lang::expr::Ty;
+    use rel_list::{List, Name};
+    use std::test::Fail;
+
+    fn class(alloc: Global, name: &str, field: &str) -> Result<Class, Memory> {
+        let mut fields = List::new(alloc);
+        let decl = Decl {
+            name: Name::new(alloc, field)?,
+            ty: Ty::Int,
+        };
+        fields.push(decl)?;
+        let name = Name::new(alloc, name)?;
+        Ok(Class {
+            at: 0,
+            name,
+            fields,
+        })
+    }
+
+    #[test]
+    fn each_item_is_a_line(rt: HostRuntime) -> Result<(), Fail> {
+        let alloc = rt.alloc();
+        let mut bundle = Bundle {
+            items: List::new(alloc),
+        };
+        let none = show(alloc, &bundle)?;
+        let item = Item::Class(class(alloc, "node", "value")?);
+        bundle.items.push(item)?;
+        let one = show(alloc, &bundle)?;
+        assert!(rt; none.is_empty());
+        assert_eq!(rt;
+            one.as_slice(),
+            b"class node { value : int ; }\n".as_slice()
+        );
+        Ok(())
+    }
 }

@@ -5,7 +5,7 @@ ghost use Rattle.rel_lang.specs.Text.{Mark, repeated, behind, ended, listed};
 ghost use Rattle.rel_show.specs.Written.{written};
 
 use crate::text::show_word;
-use rel_list::Memory;
+use rel_list::{List, Memory};
 
 /// How an element of a repetition is shown.
 pub(crate) trait Element {
@@ -68,11 +68,7 @@ impl<E: Element> Element for Ended<'_, E> {
 }
 
 /// The elements, one behind the other.
-pub(crate) fn show_each<E: Element>(
-    out: &mut Vec<u8>,
-    element: &E,
-    items: &[E::Item],
-) -> Result<(), Memory>
+fn show_run<E: Element>(out: &mut Vec<u8>, element: &E, items: &[E::Item]) -> Result<(), Memory>
     ensures { OnOk result (out.new.items ≡ out.old.items
         ++ written (repeated (E.marks element.now) 1 (map E.view items.now))) }
 {
@@ -82,12 +78,20 @@ pub(crate) fn show_each<E: Element>(
     Ok(())
 }
 
-/// The elements with commas between them.
-pub(crate) fn show_listed<E: Element>(
+/// The elements, one behind the other.
+pub(crate) fn show_each<E: Element>(
     out: &mut Vec<u8>,
     element: &E,
-    items: &[E::Item],
+    items: &List<E::Item>,
 ) -> Result<(), Memory>
+    ensures { OnOk result (out.new.items ≡ out.old.items
+        ++ written (repeated (E.marks element.now) 1 (map E.view items.now))) }
+{
+    show_run(out, element, items.as_slice())
+}
+
+/// The elements with commas between them.
+fn show_apart<E: Element>(out: &mut Vec<u8>, element: &E, items: &[E::Item]) -> Result<(), Memory>
     ensures { OnOk result (out.new.items ≡ out.old.items
         ++ written (listed (E.marks element.now) (map E.view items.now))) }
 {
@@ -95,7 +99,19 @@ pub(crate) fn show_listed<E: Element>(
         [] => Ok(()),
         [first, rest @ ..] => {
             element.show(out, first)?;
-            show_each(out, &Behind { word: ",", element }, rest)
+            show_run(out, &Behind { word: ",", element }, rest)
         }
     }
+}
+
+/// The elements with commas between them.
+pub(crate) fn show_listed<E: Element>(
+    out: &mut Vec<u8>,
+    element: &E,
+    items: &List<E::Item>,
+) -> Result<(), Memory>
+    ensures { OnOk result (out.new.items ≡ out.old.items
+        ++ written (listed (E.marks element.now) (map E.view items.now))) }
+{
+    show_apart(out, element, items.as_slice())
 }

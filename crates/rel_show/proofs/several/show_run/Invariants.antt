@@ -1,7 +1,7 @@
 use Rattle.std.proofs.Common.{◌≡◌, ◌++◌, take, map}
 use Rattle.rel_lang.specs.Text.{repeated}
 use Rattle.rel_show.specs.Written.{written}
-use Rattle.rel_show.proofs.several.show_each.Given as goal
+use Rattle.rel_show.proofs.several.show_run.Given as goal
 
 abbrev pub invariant-loop-item : goal.invariant-loop-item
 invariant-loop-item g l =

@@ -1,6 +1,6 @@
 use Rattle.std.proofs.Common.{refl}
 use Rattle.rel_show.proofs.Repetitions.{repetition, repeated_text, whole_more, whole_all}
-use Rattle.rel_show.proofs.several.show_each.Goals as goal
+use Rattle.rel_show.proofs.several.show_run.Goals as goal
 
 pub loop-item-preserved : goal.loop-item-preserved
 loop-item-preserved g c =
