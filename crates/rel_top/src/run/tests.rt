@@ -468,7 +468,7 @@ fn refuses_ill_formed(rt: &impl Abort, alloc: Global) -> Result<(), Fail> {
         let bundle = good_but(alloc, piece, new)?;
         let bundle = bundle.as_str();
         let at = bundle.find(new).ok_or("the piece isn't there")?;
-        let expected = refusal(alloc, why, at + offset)?;
+        let expected = refusal(alloc, why, at.saturating_add(offset))?;
         refuses_bundle(rt, alloc, bundle, bundle.as_bytes(), expected.as_str())?;
     }
     Ok(())
@@ -639,7 +639,8 @@ fn a_text_that_is_cut_off_is_refused(rt: HostRuntime) -> Result<(), Fail> {
             assert!(rt; end.as_str().starts_with("1|refused Syntax at "), "{len}");
         }
     }
-    let call = checking(&bundle.as_bytes()[..119], PROOF.as_bytes());
+    let front = bundle.as_bytes().get(..119).ok_or("a short text")?;
+    let call = checking(front, PROOF.as_bytes());
     assert_eq!(rt;
         outcome(rt.alloc(), call)?.as_str(),
         "1|refused Syntax at 119\n"
