@@ -8,8 +8,6 @@ ghost use Rattle.rel_lexer.specs.Tokens.{tokens_of, HasKind, IsSlice, IsFirstFau
 mod keywords;
 mod parts;
 mod symbols;
-#[cfg(test)]
-mod tests;
 
 pub use keywords::Keyword;
 use parts::{Part, next_part};

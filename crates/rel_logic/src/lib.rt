@@ -7,5 +7,3 @@ pub mod sequent;
 pub mod sorting;
 pub mod substitution;
 pub mod term;
-#[cfg(test)]
-mod tests;

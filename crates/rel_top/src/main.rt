@@ -7,6 +7,8 @@ mod report;
 mod run;
 mod show;
 mod status;
+#[cfg(test)]
+mod tests;
 
 use rel_io::{HostFiles, HostSink};
 use run::run;

@@ -1,6 +1,7 @@
 //! What `lex` gives on texts of each kind, and which texts it refuses where.
 
-use super::*;
+use rel_lexer::{Keyword, Kind, LexFault, Symbol, lex};
+use std::alloc::Global;
 use std::test::Fail;
 
 /// A token as a table writes it.

@@ -1,11 +1,11 @@
 //! Copies, and a term put for a variable and for a bound number.
-use crate::comparison::same;
-use crate::fol::{Fol, free_bound};
-use crate::sequent::Sequent;
-use crate::sorting::well_sorted;
-use crate::substitution::{instantiate, substitute};
-use crate::term::{Sort, Term};
 use rel_list::{Boxed, List, Memory, both};
+use rel_logic::comparison::same;
+use rel_logic::fol::{Fol, free_bound};
+use rel_logic::sequent::Sequent;
+use rel_logic::sorting::well_sorted;
+use rel_logic::substitution::{instantiate, substitute};
+use rel_logic::term::{Sort, Term};
 use std::alloc::Global;
 use std::test::Fail;
 

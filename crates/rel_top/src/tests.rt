@@ -1,0 +1,8 @@
+//! What the crates below give, each call that takes memory once. The tests stand here, since a crate with tests is
+//! proved twice.
+
+mod derivations;
+mod files;
+mod lists;
+mod logic;
+mod tokens;
