@@ -3,6 +3,7 @@
 ghost use Rattle.std.specs.Prelude.{◌≡◌, IfOk};
 
 use crate::command::Command;
+use crate::copies::push_copy;
 use crate::formula::Formula;
 use crate::relation::RelFormula;
 use rel_list::{Copies, List, Memory, Name, both};
@@ -128,7 +129,7 @@ fn copy_block(commands: &List<BiCommand>) -> Result<List<BiCommand>, Memory>
 {
     let mut copies = commands.empty_beside();
     for command in &commands.items {
-        copies.items.push(command.copy()?)?;
+        push_copy(&mut copies, command.copy())?;
     }
     Ok(copies)
 }

@@ -4,6 +4,7 @@ ghost use Rattle.std.specs.Prelude.{◌≡◌, ◌↔◌, IfOk, IsTrue};
 ghost use Rattle.rel_lang.specs.Syntax.{without_at, form_without_at};
 ghost use Rattle.rel_lang.specs.View.{form_of, block_of};
 
+use crate::copies::push_copy;
 use crate::expr::{Expr, same_expr, same_exprs};
 use crate::formula::{Formula, same_formula};
 use rel_list::{Copies, List, Memory, Name, both};
@@ -97,7 +98,7 @@ fn copy_block(commands: &List<Command>) -> Result<List<Command>, Memory>
 {
     let mut copies = commands.empty_beside();
     for command in &commands.items {
-        copies.items.push(command.copy()?)?;
+        push_copy(&mut copies, command.copy())?;
     }
     Ok(copies)
 }

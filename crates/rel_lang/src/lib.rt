@@ -4,6 +4,7 @@
 pub mod biprogram;
 pub mod bundle;
 pub mod command;
+pub(crate) mod copies;
 pub mod expr;
 pub mod formula;
 pub mod laws;

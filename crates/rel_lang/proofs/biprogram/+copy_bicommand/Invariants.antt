@@ -2,4 +2,4 @@ use Rattle.std.proofs.Common.{◌≡◌, take}
 use Rattle.rel_lang.proofs.biprogram.+copy_bicommand.Given as goal
 
 abbrev pub invariant-copy_block-loop-command : goal.invariant-copy_block-loop-command
-invariant-copy_block-loop-command l = l.copies-inside.items.items ≡ take l.command-index l.commands
+invariant-copy_block-loop-command l = l.copies ≡ take l.command-index l.commands
