@@ -8,11 +8,7 @@ use Rattle.rel_lexer.specs.declared.keywords.Keyword.TheVariants as word
 use Rattle.rel_lexer.specs.declared.symbols.Symbol.TheVariants as symbol
 use Rattle.rel_parse.specs.Reading.{Reader, then_read, with_front, is_next, is_number_next, expect_at, name_at, count_at, made, both, after, before, placed, either, many_at}
 use Rattle.rel_parse.specs.Relations.{rel_at}
-use Rattle.rel_parse.specs.Biprograms.{biblock_at}
-
--- with a bar between them
-abbrev pub sides_at : {A B : Type 0} → Reader A → Reader B → Reader (A × B)
-sides_at a b = both a (after (kind.Symbol symbol.Bar) b)
+use Rattle.rel_parse.specs.Biprograms.{sides_at, biblock_at}
 
 abbrev pub seq_act_at : Reader Act
 seq_act_at = made (λ p. ActSeq p.0 p.1) (after (kind.Word word.Seq) (both count_at count_at))

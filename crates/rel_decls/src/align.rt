@@ -10,15 +10,15 @@ ghost use Rattle.rel_lexer.specs.declared.symbols.Symbol.TheVariants as symbol;
 ghost use Rattle.rel_parse.specs.Gives.{Gives};
 ghost use Rattle.rel_parse.specs.Reading.{is_next, is_number_next, name_at, counted_as, count_at, made, after};
 ghost use Rattle.rel_parse.specs.Relations.{rel_at};
-ghost use Rattle.rel_parse.specs.Biprograms.{biblock_at};
-ghost use Rattle.rel_decls.specs.Alignments.{sides_at, seq_act_at, while_act_at, named_act_at, word_act_at, is_named_act_next, act_at, numbers_at, step_at, ended_step_at, steps_at, align_at};
+ghost use Rattle.rel_parse.specs.Biprograms.{sides_at, biblock_at};
+ghost use Rattle.rel_decls.specs.Alignments.{seq_act_at, while_act_at, named_act_at, word_act_at, is_named_act_next, act_at, numbers_at, step_at, ended_step_at, steps_at, align_at};
 
 use crate::DEEPEST;
 use rel_lang::biprogram::{Act, Align, WeaveStep};
 use rel_lang::relation::RelFormula;
 use rel_lexer::{Keyword, Kind, Symbol, Token};
-use rel_list::{Boxed, List, Name};
-use rel_parse::biprogram::biblock;
+use rel_list::{Boxed, List};
+use rel_parse::biprogram::{biblock, names};
 use rel_parse::relation::{part, rel};
 use rel_parse::several::{Element, Repeated, many, more};
 use rel_parse::token::{Read, expect, is_next, is_number_next, literal, name_of, place};
@@ -43,16 +43,6 @@ fn count<'a>(tokens: &'a [Token<'a>]) -> Read<'a, u32>
 {
     let (number, rest) = literal(tokens)?;
     Ok((counted(number), rest))
-}
-
-/// Two names with a bar between them.
-fn names<'a>(alloc: Global, tokens: &'a [Token<'a>]) -> Read<'a, (Name, Name)>
-    ensures { Gives (λ x. ((x.0.0, x.0.1), x.1.now)) result (sides_at name_at name_at tokens.now) }
-{
-    let (left, rest) = name_of(alloc, tokens)?;
-    let rest = expect(rest, Kind::Symbol(Symbol::Bar))?;
-    let (right, rest) = name_of(alloc, rest)?;
-    Ok(((left, right), rest))
 }
 
 /// A formula behind a bar.

@@ -28,7 +28,7 @@ use rel_list::{Boxed, List, Name};
 use std::alloc::Global;
 
 /// Two names with a bar between them.
-fn names<'a>(alloc: Global, tokens: &'a [Token<'a>]) -> Read<'a, (Name, Name)>
+pub fn names<'a>(alloc: Global, tokens: &'a [Token<'a>]) -> Read<'a, (Name, Name)>
     ensures { Gives (λ x. ((x.0.0, x.0.1), x.1.now)) result (sides_at name_at name_at tokens.now) }
 {
     let (left, rest) = name_of(alloc, tokens)?;
@@ -53,7 +53,7 @@ fn formulas<'a>(
 }
 
 /// Two relation formulas with a bar between them.
-pub fn rels<'a>(
+fn rels<'a>(
     alloc: Global,
     tokens: &'a [Token<'a>],
     left: u32,
