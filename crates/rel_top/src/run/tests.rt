@@ -110,7 +110,7 @@ fn outcome(alloc: Global, call: Call<'_>) -> Result<String, Fail> {
     let words = texts(alloc, call.words)?;
     let files = two_files(alloc, call.bundle, call.proof)?;
     let mut files = MemFiles::new(files, numbers(alloc, call.file_fails)?);
-    let mut sink = MemSink::new(alloc, 4096, numbers(alloc, call.sink_fails)?)?;
+    let mut sink = MemSink::new(alloc, 262_144, numbers(alloc, call.sink_fails)?)?;
     let status = run(alloc, words.as_slice(), &mut files, &mut sink) as u8;
     if !holds(&files, "sum.rel", call.bundle) || !holds(&files, "sum.json", call.proof) {
         return Err(Fail::from("a file was changed"));
@@ -474,34 +474,219 @@ fn refuses_ill_formed(rt: &impl Abort, alloc: Global) -> Result<(), Fail> {
     Ok(())
 }
 
-/// Whole bundles with the ends of their calls. The last two differ in a doubled parenthesis.
-const TEXTS: [(&str, &str); 9] = [
-    ("", NO_BUNDLE),
-    ("\u{feff}", "1|refused Lexical BadChar at 0\n"),
-    ("// %", NO_BUNDLE),
-    ("class C { } \r interface", "1|refused Syntax at 23\n"),
-    ("unit U { } %", "1|refused Lexical BadChar at 11\n"),
-    ("unit globally { } class unit_ { }", NO_BUNDLE),
+/// What it shows, a text that is the front, so many times the piece, and the back, and the end of the call.
+type Hostile<'a> = (&'a str, &'a [u8], &'a [u8], u32, &'a [u8], &'a str);
+
+/// Texts that come near to what a text may not be, from either side.
+const HOSTILE: [Hostile<'_>; 25] = [
+    ("nothing", b"", b"", 0, b"", NO_BUNDLE),
+    ("a comment alone", b"// %", b"", 0, b"", NO_BUNDLE),
     (
-        "unit U { proc p ( ) : int requires true ensures true writes { } \
+        "a byte order mark",
+        b"\xef\xbb\xbfunit U { }",
+        b"",
+        0,
+        b"",
+        "1|refused Lexical BadChar at 0\n",
+    ),
+    (
+        "a byte that begins nothing",
+        b"\xff",
+        b"",
+        0,
+        b"",
+        "1|refused NotUtf8 at 0\n",
+    ),
+    (
+        "half a character in a comment",
+        b"unit U { } // \xc3",
+        b"",
+        0,
+        b"",
+        "1|refused NotUtf8 at 14\n",
+    ),
+    (
+        "a surrogate",
+        b"unit \xed\xa0\x80 { }",
+        b"",
+        0,
+        b"",
+        "1|refused NotUtf8 at 5\n",
+    ),
+    (
+        "a carriage return alone",
+        b"unit U { }\rclass C { }\r",
+        b"",
+        0,
+        b"",
+        NO_BUNDLE,
+    ),
+    (
+        "a comment goes on behind a carriage return",
+        b"unit U { } // \r %",
+        b"",
+        0,
+        b"",
+        NO_BUNDLE,
+    ),
+    (
+        "a place behind carriage returns",
+        b"class C { } \r interface",
+        b"",
+        0,
+        b"",
+        "1|refused Syntax at 23\n",
+    ),
+    (
+        "a combining character in a name",
+        b"unit e\xcc\x81 { }",
+        b"",
+        0,
+        b"",
+        NO_BUNDLE,
+    ),
+    (
+        "a combining character alone",
+        b"unit \xcc\x81e { }",
+        b"",
+        0,
+        b"",
+        "1|refused Lexical BadChar at 5\n",
+    ),
+    (
+        "names that begin like reserved words",
+        b"unit globally { } class unit_ { }",
+        b"",
+        0,
+        b"",
+        NO_BUNDLE,
+    ),
+    (
+        "a reserved word",
+        b"unit unit { }",
+        b"",
+        0,
+        b"",
+        "1|refused Syntax at 5\n",
+    ),
+    (
+        "a character that begins nothing",
+        b"unit U { } %",
+        b"",
+        0,
+        b"",
+        "1|refused Lexical BadChar at 11\n",
+    ),
+    (
+        "a zero too much",
+        b"unit U { } 01",
+        b"",
+        0,
+        b"",
+        "1|refused Lexical BadChar at 12\n",
+    ),
+    (
+        "a number that is too great",
+        b"unit U { proc p ( ) : int requires true ensures true writes { } \
         { result := 170141183460469231731687303715884105728 ; } }",
+        b"",
+        0,
+        b"",
         "1|refused Lexical WideLiteral at 76\n",
     ),
     (
-        "unit U { proc p ( ) : int requires true ensures true writes { } \
+        "the greatest number",
+        b"unit U { proc p ( ) : int requires true ensures true writes { } \
+        { result := 170141183460469231731687303715884105727 ; } }",
+        b"",
+        0,
+        b"",
+        NO_BUNDLE,
+    ),
+    (
+        "a doubled parenthesis",
+        b"unit U { proc p ( ) : int requires true ensures true writes { } \
         { result := ( ( 1 + 1 ) ) ; } }",
+        b"",
+        0,
+        b"",
         "1|refused Syntax at 88\n",
     ),
     (
-        "unit U { proc p ( ) : int requires true ensures true writes { } \
+        "a single parenthesis",
+        b"unit U { proc p ( ) : int requires true ensures true writes { } \
         { result := ( 1 + 1 ) ; } }",
+        b"",
+        0,
+        b"",
         NO_BUNDLE,
+    ),
+    (
+        "a formula that is 64 deep",
+        b"unit U { proc p ( ) : int requires ",
+        b"not ",
+        63,
+        b"true ensures true writes { } { } }",
+        NO_BUNDLE,
+    ),
+    (
+        "a formula that is 65 deep",
+        b"unit U { proc p ( ) : int requires ",
+        b"not ",
+        64,
+        b"true ensures true writes { } { } }",
+        "1|refused TooDeep at 291\n",
+    ),
+    (
+        "no formula 65 deep",
+        b"unit U { proc p ( ) : int requires ",
+        b"not ",
+        64,
+        b"; ensures true writes { } { } }",
+        "1|refused Syntax at 291\n",
+    ),
+    (
+        "16,384 fields",
+        b"class C { ",
+        b"f : int ; ",
+        16_384,
+        b"}",
+        NO_BUNDLE,
+    ),
+    (
+        "16,385 fields",
+        b"class C { ",
+        b"f : int ; ",
+        16_385,
+        b"}",
+        "1|refused TooMany at 163850\n",
+    ),
+    (
+        "a character that begins nothing, behind 16,385 fields",
+        b"class C { ",
+        b"f : int ; ",
+        16_385,
+        b"} %",
+        "1|refused Lexical BadChar at 163862\n",
     ),
 ];
 
-fn refuses_texts(rt: &impl Abort, alloc: Global) -> Result<(), Fail> {
-    for (text, expected) in TEXTS {
-        refuses_bundle(rt, alloc, text, text.as_bytes(), expected)?;
+fn spelled(alloc: Global, text: Hostile<'_>) -> Result<Vec<u8>, Memory> {
+    let (_, front, piece, times, back, _) = text;
+    let mut bytes = Vec::from_slice(alloc, front)?;
+    for _ in 0..times {
+        bytes.extend_from_slice(piece)?;
+    }
+    bytes.extend_from_slice(back)?;
+    Ok(bytes)
+}
+
+/// Each kind of refusal of a text comes at its byte, and not where the text is as near to it as can be.
+#[test]
+fn hostile_texts_end_as_they_are_meant_to(rt: HostRuntime) -> Result<(), Fail> {
+    for text in HOSTILE {
+        let bytes = spelled(rt.alloc(), text)?;
+        refuses_bundle(&rt, rt.alloc(), text.0, bytes.as_slice(), text.5)?;
     }
     Ok(())
 }
@@ -648,14 +833,8 @@ fn a_text_that_is_cut_off_is_refused(rt: HostRuntime) -> Result<(), Fail> {
     Ok(())
 }
 
-/// Bytes that aren't UTF-8, in the bundle and in the proof file.
+/// Bytes that aren't UTF-8, in the proof file.
 fn refuses_other_bytes(rt: &impl Abort, alloc: Global) -> Result<(), Fail> {
-    let line = "1|refused NotUtf8 at 0\n";
-    refuses_bundle(rt, alloc, "one byte", &[255], line)?;
-    let mut bytes = Vec::from_slice(alloc, good(alloc)?.as_bytes())?;
-    bytes.extend_from_slice(b"// \xff")?;
-    let line = "1|refused NotUtf8 at 371\n";
-    refuses_bundle(rt, alloc, "bundle", bytes.as_slice(), line)?;
     let mut bytes = Vec::from_slice(alloc, PROOF.as_bytes())?;
     bytes.push(255)?;
     let bundle = good(alloc)?;
@@ -700,30 +879,6 @@ fn an_expression_in_a_split_is_at_most_62_deep(rt: HostRuntime) -> Result<(), Fa
         );
     }
     Ok(())
-}
-
-/// The good bundle with so many more globals on the left.
-fn with_globals(alloc: Global, count: u32) -> Result<String, Fail> {
-    let mut globals = String::from_str(alloc, "U {")?;
-    for number in 0..count {
-        globals.push_str(format!(in alloc; " global g{number} : int ;")?.as_str())?;
-    }
-    good_but(alloc, "U {", globals.as_str())
-}
-
-/// The global that is one too many.
-fn refuses_a_long_row(rt: &impl Abort, alloc: Global) -> Result<(), Fail> {
-    let bundle = with_globals(alloc, 16_384)?;
-    let bundle = bundle.as_str();
-    let at = bundle.find("global x").ok_or("no x")?;
-    let expected = refusal(alloc, "TooMany", at)?;
-    refuses_bundle(
-        rt,
-        alloc,
-        "16,385 globals",
-        bundle.as_bytes(),
-        expected.as_str(),
-    )
 }
 
 /// What follows the first member is the repetition that has a limit. The comma of a member that is one too many is
@@ -888,11 +1043,9 @@ fn reads_unusual_proof_files(rt: &impl Abort, alloc: Global) -> Result<(), Fail>
 fn each_reason_has_its_line(rt: HostRuntime) -> Result<(), Fail> {
     let alloc = rt.alloc();
     refuses_ill_formed(&rt, alloc)?;
-    refuses_texts(&rt, alloc)?;
     are_refused(&rt, alloc, &UNTYPED)?;
     are_refused(&rt, alloc, &OTHER_FORMS)?;
     refuses_other_bytes(&rt, alloc)?;
-    refuses_a_long_row(&rt, alloc)?;
     reads_unusual_bundles(&rt, alloc)?;
     refuses_other_proof_files(&rt, alloc)?;
     reads_unusual_proof_files(&rt, alloc)
@@ -952,16 +1105,18 @@ fn a_bundle_is_printed_in_one_form(rt: HostRuntime) -> Result<(), Fail> {
 #[test]
 fn show_refuses_a_text_as_check_does(rt: HostRuntime) -> Result<(), Fail> {
     let alloc = rt.alloc();
-    for (text, expected) in TEXTS {
+    for text in HOSTILE {
+        let bytes = spelled(alloc, text)?;
         let call = Call {
             words: &["show", "sum.rel"],
-            ..checking(text.as_bytes(), b"")
+            ..checking(bytes.as_slice(), b"")
         };
         let end = outcome(alloc, call)?;
+        let (case, expected) = (text.0, text.5);
         if expected == NO_BUNDLE {
-            assert!(rt; end.as_str().starts_with("0|"), "{text}");
+            assert!(rt; end.as_str().starts_with("0|"), "{case}");
         } else {
-            assert_eq!(rt; end.as_str(), expected, "{text}");
+            assert_eq!(rt; end.as_str(), expected, "{case}");
         }
     }
     let call = Call {
