@@ -1,4 +1,4 @@
--- Marks that say what some marks do and begin trees at the places of some tokens.
+-- Tokens that spell a tree's marks are those of a tree that is equal but for places: what is shown of all trees.
 use Rattle.std.proofs.Common.{◌≡◌, ℕ, suc, List, [], ◌∷◌, ◌++◌, map, refl, sym, ap, subst}
 use Rattle.std.specs.List.{AllByRecursion}
 use Rattle.rel_lang.specs.Syntax.{Word}
@@ -6,6 +6,7 @@ use Rattle.rel_lang.specs.Tokens.{Token}
 use Rattle.rel_lang.specs.Text.{Mark, Says, CanBeSaid, AreAt, Match, tree, element, begins, braced, repeated, ended}
 use Rattle.rel_show.specs.Laws.{Spells}
 
+-- the second marks say what the first do and begin trees at the places of the tokens, which say that too
 abbrev pub Placed : List Mark → List Mark → List Token → Type 0
 Placed [] [] [] = Unit {0}
 Placed (m ∷ ms) (n ∷ ns) (t ∷ ts) = (n.said ≡ m.said) × Says t.text m.said × AreAt n.ats t.at × Placed ms ns ts
@@ -13,31 +14,18 @@ Placed _ _ _ = ⊥
 
 pub placed_match : (ms ns : List Mark) (ts : List Token) → Placed ms ns ts → Match ns ts
 placed_match [] [] [] p = tt
-placed_match [] [] (t ∷ ts) p = p
-placed_match [] (n ∷ ns) [] p = p
-placed_match [] (n ∷ ns) (t ∷ ts) p = absurd p
-placed_match (m ∷ ms) [] [] p = tt
-placed_match (m ∷ ms) [] (t ∷ ts) p = p
-placed_match (m ∷ ms) (n ∷ ns) [] p = p
 placed_match (m ∷ ms) (n ∷ ns) (t ∷ ts) p = (subst (Says t.text) (sym p.0) p.1, p.2, placed_match ms ns ts p.3)
+placed_match ms ns ts p = absurd p
 
 pub placed_said : (ms ns : List Mark) (ts : List Token) → Placed ms ns ts → AllByRecursion (λ m. CanBeSaid m.said) ms → AllByRecursion (λ m. CanBeSaid m.said) ns
-placed_said [] [] ts p h = tt
-placed_said (m ∷ ms) [] ts p h = tt
-placed_said [] (n ∷ ns) [] p h = absurd p
-placed_said [] (n ∷ ns) (t ∷ ts) p h = absurd p
-placed_said (m ∷ ms) (n ∷ ns) [] p h = absurd p
+placed_said [] [] [] p h = tt
 placed_said (m ∷ ms) (n ∷ ns) (t ∷ ts) p h = (subst CanBeSaid (sym p.0) h.0, placed_said ms ns ts p.3 h.1)
+placed_said ms ns ts p h = absurd p
 
 pub placed_append : (ms ns us vs : List Mark) (ts ks : List Token) → Placed ms ns ts → Placed us vs ks → Placed (ms ++ us) (ns ++ vs) (ts ++ ks)
 placed_append [] [] us vs [] ks p q = q
-placed_append [] [] us vs (t ∷ ts) ks p q = absurd p
-placed_append [] (n ∷ ns) us vs [] ks p q = absurd p
-placed_append [] (n ∷ ns) us vs (t ∷ ts) ks p q = absurd p
-placed_append (m ∷ ms) [] us vs [] ks p q = absurd p
-placed_append (m ∷ ms) [] us vs (t ∷ ts) ks p q = absurd p
-placed_append (m ∷ ms) (n ∷ ns) us vs [] ks p q = absurd p
 placed_append (m ∷ ms) (n ∷ ns) us vs (t ∷ ts) ks p q = (p.0, p.1, p.2, placed_append ms ns us vs ts ks p.3 q)
+placed_append ms ns us vs ts ks p q = absurd p
 
 pub spells_append : (ms us : List Mark) (ts : List Token) → Spells (ms ++ us) ts → (front : List Token) × (back : List Token) × (front ++ back ≡ ts) × Spells ms front × Spells us back
 spells_append [] us ts s = ([], ts, refl, tt, s)
@@ -45,9 +33,6 @@ spells_append (m ∷ ms) us [] s = absurd s
 spells_append (m ∷ ms) us (t ∷ ts) s =
     let r = spells_append ms us ts s.1 in
     (t ∷ r.0, r.1, ap (λ ks. t ∷ ks) r.2, (s.0, r.3), r.4)
-
-pub ap₃ : {A B C D : Type 0} {a x : A} {b y : B} {c z : C} (f : A → B → C → D) → a ≡ x → b ≡ y → c ≡ z → f a b c ≡ f x y z
-ap₃ f p q r = cc
 
 -- Whatever tokens spell the marks, there are marks with this property that say the same and have the tokens' places.
 pub record Placing (ms : List Mark) (good : List Mark → Type 0) : Type 0 where
@@ -66,6 +51,7 @@ done {good} g = record { placing = only }
     only [] s = ([], tt, g)
     only (t ∷ ts) s = absurd s
 
+-- the mark, with which no tree begins that has a place
 pub keep : {m : Mark} {ms : List Mark} {good : List Mark → Type 0} → Placing ms (λ ns. good (record m { ats = [] } ∷ ns)) → Placing (m ∷ ms) good
 keep {m} {ms} {good} rest = record { placing = first }
   where
@@ -73,7 +59,7 @@ keep {m} {ms} {good} rest = record { placing = first }
     first [] s = absurd s
     first (t ∷ ts) s = let r = rest.placing ts s.1 in (record m { ats = [] } ∷ r.0, (refl, s.0, tt, r.1), r.2)
 
--- with the mark begins a tree that has a place
+-- the mark, with which a tree begins that has a place
 pub start : {m : Mark} {ms : List Mark} {good : List Mark → Type 0} → ((at : ℕ) → Placing ms λ ns. good (record m { ats = at ∷ [] } ∷ ns)) → Placing (m ∷ ms) good
 start {m} {ms} {good} rest = record { placing = first }
   where
@@ -81,7 +67,7 @@ start {m} {ms} {good} rest = record { placing = first }
     first [] s = absurd s
     first (t ∷ ts) s = let r = (rest t.at).placing ts s.1 in (record m { ats = t.at ∷ [] } ∷ r.0, (refl, s.0, (refl, tt), r.1), r.2)
 
--- and another in it
+-- the mark, with which two trees begin
 pub start_both : {m : Mark} {ms : List Mark} {good : List Mark → Type 0} → ((at : ℕ) → Placing ms λ ns. good (record m { ats = at ∷ at ∷ [] } ∷ ns)) → Placing (m ∷ ms) good
 start_both {m} {ms} {good} rest = record { placing = first }
   where
@@ -91,6 +77,7 @@ start_both {m} {ms} {good} rest = record { placing = first }
 
 -- ---- one tree after the other
 
+-- some marks and those behind them
 pub append : {ms ns : List Mark} {good : List Mark → Type 0} → Placing ms (λ us. Placing ns λ vs. good (us ++ vs)) → Placing (ms ++ ns) good
 append {ms} {ns} {good} first = record { placing = both }
   where
@@ -101,11 +88,12 @@ append {ms} {ns} {good} first = record { placing = both }
         let q = (p.2).placing r.1 r.4 in
         (p.0 ++ q.0, subst (λ ks. Placed (ms ++ ns) (p.0 ++ q.0) ks) r.2 (placed_append ms p.0 ns q.0 r.0 r.1 p.1 q.1), q.2)
 
+-- the marks of a tree
 pub last : {X : Type 0} {strip : X → X} {show : X → List Mark} {x : X} {good : List Mark → Type 0}
     → Places strip show x → ((y : X) → strip y ≡ strip x → good (show y)) → Placing (show x) good
 last {X} {strip} {show} {x} {good} tree rest = record { placing = λ ts s. let p = tree.places ts s in (show p.0, p.2, rest p.0 p.1) }
 
--- the marks of a tree that is equal but for places
+-- these marks are those of a tree that is equal but for places
 abbrev pub Same : {X : Type 0} → (X → X) → (X → List Mark) → X → List Mark → Type 0
 Same {X} strip show x ns = (y : X) × (strip y ≡ strip x) × (show y ≡ ns)
 
@@ -119,35 +107,27 @@ Plain ms = AllByRecursion (λ m. m.ats ≡ []) ms
 
 plain_placed : (ms : List Mark) (ts : List Token) → Plain ms → Spells ms ts → Placed ms ms ts
 plain_placed [] [] h s = tt
-plain_placed [] (t ∷ ts) h s = absurd s
-plain_placed (m ∷ ms) [] h s = absurd s
 plain_placed (m ∷ ms) (t ∷ ts) h s = (refl, s.0, subst (λ ats. AreAt ats t.at) (sym h.0) tt, plain_placed ms ts h.1 s.1)
+plain_placed ms ts h s = absurd s
 
 pub plain_places : {X : Type 0} {strip : X → X} {show : X → List Mark} {x : X} → Plain (show x) → Places strip show x
 plain_places {X} {strip} {show} {x} plain = record { places = λ ts s. (x, refl, plain_placed (show x) ts plain s) }
 
+-- marks that stay
 pub skip : {ms : List Mark} {good : List Mark → Type 0} → Plain ms → good ms → Placing ms good
 skip {ms} {good} plain g = record { placing = λ ts s. (ms, plain_placed ms ts plain s, g) }
 
--- ---- what is written at the first mark
+-- ---- what is told at the first mark
 
 placed_tree : (d : ℕ) (ms ns : List Mark) (ts : List Token) → Placed ms ns ts → Placed (tree d ms) (tree d ns) ts
-placed_tree d [] [] ts p = p
-placed_tree d [] (n ∷ ns) [] p = absurd p
-placed_tree d [] (n ∷ ns) (t ∷ ts) p = absurd p
-placed_tree d (m ∷ ms) [] [] p = absurd p
-placed_tree d (m ∷ ms) [] (t ∷ ts) p = absurd p
-placed_tree d (m ∷ ms) (n ∷ ns) [] p = absurd p
+placed_tree d [] [] [] p = p
 placed_tree d (m ∷ ms) (n ∷ ns) (t ∷ ts) p = p
+placed_tree d ms ns ts p = absurd p
 
 placed_element : (k : ℕ) (ms ns : List Mark) (ts : List Token) → Placed ms ns ts → Placed (element k ms) (element k ns) ts
-placed_element k [] [] ts p = p
-placed_element k [] (n ∷ ns) [] p = absurd p
-placed_element k [] (n ∷ ns) (t ∷ ts) p = absurd p
-placed_element k (m ∷ ms) [] [] p = absurd p
-placed_element k (m ∷ ms) [] (t ∷ ts) p = absurd p
-placed_element k (m ∷ ms) (n ∷ ns) [] p = absurd p
+placed_element k [] [] [] p = p
 placed_element k (m ∷ ms) (n ∷ ns) (t ∷ ts) p = p
+placed_element k ms ns ts p = absurd p
 
 spells_tree : (d : ℕ) (ms : List Mark) (ts : List Token) → Spells (tree d ms) ts → Spells ms ts
 spells_tree d [] ts s = s

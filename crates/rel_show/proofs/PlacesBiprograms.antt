@@ -1,5 +1,5 @@
 -- Tokens of an alignment are those of an alignment that is equal but for places.
-use Rattle.std.proofs.Common.{ℕ, suc, List, [], ◌∷◌, refl, ap, ap₂}
+use Rattle.std.proofs.Common.{ℕ, suc, List, [], ◌∷◌, refl}
 use Rattle.std.specs.Prelude.{codes}
 use Rattle.rel_lang.specs.Syntax.{BiCommand, BiAt, BiForm, Split, Sync, SyncCall, BiIf, BiWhile, Link, Note, BiBlock, BiEnd, BiThen, Act, ActSeq, ActSync, ActCall, ActIf, ActWhile, ActLink, ActNote, ActDrop, WeaveStep, Align, Given, Woven}
 use Rattle.rel_lang.specs.Text.{counted, tree, show_formula, show_rel, show_loop, show_biform, show_bicommand, show_bicommands, show_act, show_place_numbers, show_weave_step, show_align}
@@ -10,24 +10,24 @@ use Rattle.rel_show.proofs.PlacesCommands.{command_places, block_places}
 
 mutual
   pub biform_places : (d : ℕ) (f : BiForm) → Places biform_without_at (show_biform d) f
-  biform_places d (Split a b) = whole (keep (append (last (block_places (suc d) a) λ x ex. last (block_places (suc d) b) λ y ey. (Split x y, ap₂ Split ex ey, refl))))
-  biform_places d (Sync c) = whole (keep (last (command_places (suc d) c) λ x e. (Sync x, ap Sync e, refl)))
-  biform_places d (SyncCall c j) = whole (keep (append (last (command_places (suc d) c) λ x e. keep (keep (done (SyncCall x j, ap (λ y. SyncCall y j) e, refl))))))
+  biform_places d (Split a b) = whole (keep (append (last (block_places (suc d) a) λ x ex. last (block_places (suc d) b) λ y ey. (Split x y, cc, refl))))
+  biform_places d (Sync c) = whole (keep (last (command_places (suc d) c) λ x e. (Sync x, cc, refl)))
+  biform_places d (SyncCall c j) = whole (keep (append (last (command_places (suc d) c) λ x e. keep (keep (done (SyncCall x j, cc, refl))))))
   biform_places d (BiIf p q a b) =
       whole (keep (append (append (skip (plain_sides (show_formula (suc d) p) (show_formula (suc d) q) (plain_formula (suc d) p) (plain_formula (suc d) q))
-      (last (braced_places (bicommands_places (suc d) 1 a)) λ x ex. keep (last (braced_places (bicommands_places (suc d) 1 b)) λ y ey. (BiIf p q x y, ap₂ (BiIf p q) ex ey, refl)))))))
+      (last (braced_places (bicommands_places (suc d) 1 a)) λ x ex. keep (last (braced_places (bicommands_places (suc d) 1 b)) λ y ey. (BiIf p q x y, cc, refl)))))))
   biform_places d (BiWhile l b) =
-      whole (append {ms = show_loop (suc d) l} (skip (plain_loop (suc d) l) (last (braced_places (bicommands_places (suc d) 1 b)) λ x e. (BiWhile l x, ap (BiWhile l) e, refl))))
+      whole (append {ms = show_loop (suc d) l} (skip (plain_loop (suc d) l) (last (braced_places (bicommands_places (suc d) 1 b)) λ x e. (BiWhile l x, cc, refl))))
   biform_places d (Link x y) = plain_places (refl, (refl, (refl, (refl, tt))))
   biform_places d (Note r) = plain_places (refl, plain_rel (suc d) r)
 
   pub bicommand_places : (d : ℕ) (c : BiCommand) → Places bicommand_without_at (show_bicommand d) c
-  bicommand_places d (BiAt at f) = whole (started at (tree d (show_biform d f)) (last (tree_places d (biform_places d f)) λ g e place. (BiAt place g, ap (BiAt 0) e, refl)))
+  bicommand_places d (BiAt at f) = whole (started at (tree d (show_biform d f)) (last (tree_places d (biform_places d f)) λ g e place. (BiAt place g, cc, refl)))
 
   pub bicommands_places : (d n : ℕ) (b : BiBlock) → Places biblock_without_at (show_bicommands d n) b
   bicommands_places d n BiEnd = whole (done (BiEnd, refl, refl))
   bicommands_places d n (BiThen c cs) =
-      whole (append (last (element_places n (bicommand_places d c)) λ x ex. keep (last (bicommands_places d (suc n) cs) λ y ey. (BiThen x y, ap₂ BiThen ex ey, refl))))
+      whole (append (last (element_places n (bicommand_places d c)) λ x ex. keep (last (bicommands_places d (suc n) cs) λ y ey. (BiThen x y, cc, refl))))
 
 -- ---- weavings
 
@@ -51,5 +51,5 @@ step_places s = whole (start λ place. skip (plain_append (show_place_numbers s.
 -- ---- alignments
 
 pub align_places : (a : Align) → Places align_without_at show_align a
-align_places (Given b) = whole (keep (last (braced_places (bicommands_places 1 1 b)) λ x e. (Given x, ap Given e, refl)))
-align_places (Woven ss) = whole (keep (last (braced_places (repeated_places (λ s. ended_places (codes ";") (step_places s)) 1 ss)) λ x e. (Woven x, ap Woven e, refl)))
+align_places (Given b) = whole (keep (last (braced_places (bicommands_places 1 1 b)) λ x e. (Given x, cc, refl)))
+align_places (Woven ss) = whole (keep (last (braced_places (repeated_places (λ s. ended_places (codes ";") (step_places s)) 1 ss)) λ x e. (Woven x, cc, refl)))

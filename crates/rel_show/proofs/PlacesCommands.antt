@@ -1,5 +1,5 @@
 -- Tokens of a block are those of a block that is equal but for places.
-use Rattle.std.proofs.Common.{ℕ, suc, List, [], ◌∷◌, ◌++◌, refl, ap}
+use Rattle.std.proofs.Common.{ℕ, suc, List, [], ◌∷◌, ◌++◌, refl}
 use Rattle.std.specs.Prelude.{codes}
 use Rattle.rel_lang.specs.Syntax.{Expression, Command, At, Form, Skip, Assign, Load, Store, New, Call, If, While, Block, End, Then, form_without_at, command_without_at, without_at}
 use Rattle.rel_lang.specs.Text.{word, tree, listed, show_expression, show_form, show_command, show_commands, show_block}
@@ -23,7 +23,7 @@ mutual
       whole (keep (append (append (skip (plain_formula (suc d) p) (keep (skip (plain_formula (suc d) q) (last (braced_places (commands_places (suc d) 1 b)) λ x e. (While p q x, cc, refl))))))))
 
   pub command_places : (d : ℕ) (c : Command) → Places command_without_at (show_command d) c
-  command_places d (At at f) = whole (started at (tree d (show_form d f)) (last (tree_places d (form_places d f)) λ g e place. (At place g, ap (At 0) e, refl)))
+  command_places d (At at f) = whole (started at (tree d (show_form d f)) (last (tree_places d (form_places d f)) λ g e place. (At place g, cc, refl)))
 
   pub commands_places : (d n : ℕ) (b : Block) → Places without_at (show_commands d n) b
   commands_places d n End = whole (done (End, refl, refl))
