@@ -6,3 +6,9 @@ pub mod Relations
 pub mod Commands
 pub mod Biprograms
 pub mod Items
+pub mod Places
+pub mod PlacesPlain
+pub mod PlacesCommands
+pub mod PlacesBiprograms
+pub mod PlacesShapes
+pub mod PlacesItems
