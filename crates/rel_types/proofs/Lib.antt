@@ -1,2 +1,5 @@
 pub mod Clean
 pub mod Names
+pub mod Equivalences
+pub mod Below
+pub mod Procedures
