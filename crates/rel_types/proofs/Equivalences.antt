@@ -36,3 +36,7 @@ map_map g f (x ∷ xs) = ap (λ r. g (f x) ∷ r) (map_map g f xs)
 pub some_is_tested : {A : Type 0} (o : Option A) → IsSome o ↔ (not (is_some o) ≡ false)
 some_is_tested None = (λ h. absurd (true≢false (sym h)), λ e. absurd (true≢false e))
 some_is_tested (Some a) = (λ h. refl, λ e. refl)
+
+pub append_nothing : {A : Type 0} (xs : List A) → xs ++ [] ≡ xs
+append_nothing [] = refl
+append_nothing (x ∷ xs) = ap (λ r. x ∷ r) (append_nothing xs)

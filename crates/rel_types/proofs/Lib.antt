@@ -3,3 +3,4 @@ pub mod Names
 pub mod Equivalences
 pub mod Below
 pub mod Procedures
+pub mod Units
