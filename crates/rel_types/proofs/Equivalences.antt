@@ -40,3 +40,18 @@ some_is_tested (Some a) = (λ h. refl, λ e. refl)
 pub append_nothing : {A : Type 0} (xs : List A) → xs ++ [] ≡ xs
 append_nothing [] = refl
 append_nothing (x ∷ xs) = ap (λ r. x ∷ r) (append_nothing xs)
+
+pub all_both : {X : Type 0} (P Q : X → Type 0) (xs : List X) → AllByRecursion (λ x. P x × Q x) xs ↔ (AllByRecursion P xs × AllByRecursion Q xs)
+all_both P Q [] = (λ h. (tt, tt), λ h. tt)
+all_both P Q (x ∷ xs) = let rest = all_both P Q xs in (λ h. let r = rest.0 h.1 in ((h.0.0, r.0), (h.0.1, r.1)), λ h. ((h.0.0, h.1.0), rest.1 (h.0.1, h.1.1)))
+
+pub all_mapped : {X Y : Type 0} (P : Y → Type 0) (f : X → Y) (xs : List X) → AllByRecursion (λ x. P (f x)) xs ↔ AllByRecursion P (map f xs)
+all_mapped P f [] = (λ h. tt, λ h. tt)
+all_mapped P f (x ∷ xs) = iff_both iff_same (all_mapped P f xs)
+
+pub all_everywhere : {X : Type 0} (P : X → Type 0) → ((x : X) → P x) → (xs : List X) → AllByRecursion P xs
+all_everywhere P each [] = tt
+all_everywhere P each (x ∷ xs) = (each x, all_everywhere P each xs)
+
+pub iff_along : {X : Type 0} (P : X → Type 0) (x y : X) → x ≡ y → P x ↔ P y
+iff_along P x y e = (λ h. subst P e h, λ h. subst P (sym e) h)

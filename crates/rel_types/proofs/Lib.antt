@@ -4,3 +4,5 @@ pub mod Equivalences
 pub mod Below
 pub mod Procedures
 pub mod Units
+pub mod Matches
+pub mod Modules

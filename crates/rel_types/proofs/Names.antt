@@ -67,6 +67,10 @@ apart_cons x seen (y ∷ ys) =
       λ h. (λ i. ⊎_elim (λ here. h.0 (inl (sym here))) (λ later. h.1.0 later) i, rest.1 (λ i. h.0 (inr i), h.1.1)),
     )
 
+pub apart_turned : (xs ys : List Word) → AreApart xs ys → AreApart ys xs
+apart_turned xs [] h = apart_from_nothing xs
+apart_turned xs (y ∷ ys) h = (apart_cons y ys xs).1 (h.0, apart_turned xs ys h.1)
+
 pub apart_append : (xs seen ys : List Word) → AreApart (xs ++ seen) ys ↔ (AreApart xs ys × AreApart seen ys)
 apart_append [] seen ys = (λ h. (apart_from_nothing ys, h), λ h. h.1)
 apart_append (x ∷ xs) seen ys =

@@ -41,7 +41,7 @@ names_declared o a [] = refl
 names_declared o a (d ∷ ds) = ap (λ ns. d.name ∷ ns) (names_declared o a ds)
 
 -- the names that a body sees
-body_names : (g : Setting) → names_of (body_scope g) ≡ names_of (globals_of g) ++ (declared_names (g.parameters ++ g.locals) ++ names_of (result_variable g.result))
+pub body_names : (g : Setting) → names_of (body_scope g) ≡ names_of (globals_of g) ++ (declared_names (g.parameters ++ g.locals) ++ names_of (result_variable g.result))
 body_names g =
     names_append (globals_of g ++ declared ByCall false g.parameters) (declared ByCall true g.locals ++ result_variable g.result)
     ∙ rw (names_append (globals_of g) (declared ByCall false g.parameters), names_append (declared ByCall true g.locals) (result_variable g.result),

@@ -51,7 +51,6 @@ module _ (tables : Tables) where
   pub class_law : (seen : List Word) (more : Flaws) (c : ClassItem)
       → HasNoFault (λ pass. class_fault tables pass seen more c) ↔ (IsClean more × ((repeats seen (declared_names c.fields) ≡ false) × HaveTypes tables c.fields))
   class_law seen more c =
-      let own = record flawless { twice = repeats seen (declared_names c.fields); unknown = have_unknown_types tables c.fields } in
       iff_then (no_fault_at c.at (either more (record flawless { twice = repeats seen (declared_names c.fields); unknown = have_unknown_types tables c.fields })))
       (iff_then (clean_both more (record flawless { twice = repeats seen (declared_names c.fields); unknown = have_unknown_types tables c.fields }))
       (iff_both iff_same (iff_then (twice_unknown_clean (repeats seen (declared_names c.fields)) (have_unknown_types tables c.fields)) (iff_both iff_same (iff_back (types_law tables c.fields))))))
