@@ -6,3 +6,4 @@ pub mod Procedures
 pub mod Units
 pub mod Matches
 pub mod Modules
+pub mod Clients
