@@ -55,3 +55,11 @@ all_everywhere P each (x ∷ xs) = (each x, all_everywhere P each xs)
 
 pub iff_along : {X : Type 0} (P : X → Type 0) (x y : X) → x ≡ y → P x ↔ P y
 iff_along P x y e = (λ h. subst P e h, λ h. subst P (sym e) h)
+
+pub all_weaker : {X : Type 0} (P Q : X → Type 0) → ((x : X) → P x → Q x) → (xs : List X) → AllByRecursion P xs → AllByRecursion Q xs
+all_weaker P Q each [] h = tt
+all_weaker P Q each (x ∷ xs) h = (each x h.0, all_weaker P Q each xs h.1)
+
+pub some_weaker : {A : Type 0} (P Q : A → Type 0) → ((a : A) → P a → Q a) → (o : Option A) → IsSomeAnd o P → IsSomeAnd o Q
+some_weaker P Q each None h = absurd h
+some_weaker P Q each (Some a) h = each a h

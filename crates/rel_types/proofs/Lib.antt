@@ -7,3 +7,4 @@ pub mod Units
 pub mod Matches
 pub mod Modules
 pub mod Clients
+pub mod Judgements

@@ -19,7 +19,7 @@ use Rattle.rel_types.proofs.Procedures.{at_first, twice_unknown_clean, names_app
 use Rattle.rel_types.proofs.Units.{behind, globals_law}
 use Rattle.rel_types.proofs.Matches.{matched}
 
-unknown_missing_clean : (u m : Bool) → IsClean (record flawless { unknown = u; missing = m }) ↔ ((u ≡ false) × (m ≡ false))
+pub unknown_missing_clean : (u m : Bool) → IsClean (record flawless { unknown = u; missing = m }) ↔ ((u ≡ false) × (m ≡ false))
 unknown_missing_clean u m = (λ e. (ap (λ f. f.unknown) e, ap (λ f. f.missing) e), λ h. rw (h.0, h.1) refl)
 
 -- the names of a body with no result
