@@ -8,3 +8,4 @@ pub mod Matches
 pub mod Modules
 pub mod Clients
 pub mod Judgements
+pub mod Bundles

@@ -1,0 +1,169 @@
+-- A bundle is typed exactly where it has no fault.
+use Rattle.std.proofs.Common.{◌≡◌, ◌↔◌, ℕ, Bool, true, false, not, ◌||◌, if◌then◌else◌, List, [], ◌∷◌, ◌++◌, map, Option, Some, None, IsSomeAnd, IfSome, refl, sym, ap, subst, ◌∙◌, true≢false}
+use Rattle.std.specs.Prelude.{bytes_eq, is_none}
+use Rattle.std.specs.List.{AllByRecursion}
+use Rattle.rel_lang.specs.Syntax.{Word, Decl, Proc, ClassItem, Interface, Module, Client, ModulePair, Item, OfClass, OfInterface, OfModule, OfUnit, OfClient, OfJudgement, OfPair, Bundle}
+use Rattle.rel_lang.specs.State.{ClassField, tables_of, class_items, fields_of, find_named}
+use Rattle.rel_lang.specs.Scope.{globals_of}
+use Rattle.rel_lang.specs.Lookup.{interfaces_of, modules_of, find_interface, find_module, find_main, subject_of}
+use Rattle.rel_lang.specs.Typed.{AreDistinct, HaveTypes, item_name, IsTypedInterface, IsTypedModule, IsTypedClient, IsTypedPair, IsTypedItem, IsTyped}
+use Rattle.rel_types.specs.Flaws.{Flaws, flawless, either, Pass, ForTwice, ForOthers, Fault, fault_at, first_of, first_in}
+use Rattle.rel_types.specs.Inference.{is_among}
+use Rattle.rel_types.specs.Alignments.{align_fault}
+use Rattle.rel_types.specs.Items.{repeats, declared_names, twice_where, globals_of_interface, flaws_of_globals, clause_fault, rel_clause_fault, proc_fault, first_named, misses_methods, init_in_module, method_in_module, signatures_of, module_body_fault, module_fault, setting_in_client, callees_in_client, flaws_of_client_proc, client_fault, interface_of_module, differ_in_interface, globals_of_side, init_of_side, method_of_side, module_sides, pair_fault, item_fault, items_fault, first_fault}
+use Rattle.rel_types.specs.Laws.{TypedHaveNoFault}
+use Rattle.rel_types.proofs.Clean.{IsClean, HasNoFault, first_none, no_fault_in_both, clean_both}
+use Rattle.rel_types.proofs.Names.{AreApart, apart_from_nothing, apart_cons, apart_append, apart_of_append, among_is_false, same_from_true, distinct_append, repeats_is_false}
+use Rattle.rel_types.proofs.Equivalences.{iff_same, iff_back, iff_then, iff_both, iff_all, map_append, map_map, some_weaker}
+use Rattle.rel_types.proofs.Below.{Below}
+use Rattle.rel_types.proofs.Procedures.{at_first}
+use Rattle.rel_types.proofs.Units.{twice_clean, class_law, interface_law, unit_law}
+use Rattle.rel_types.proofs.Modules.{module_law}
+use Rattle.rel_types.proofs.Clients.{client_law}
+use Rattle.rel_types.proofs.Judgements.{judgement_law, pair_law}
+
+-- ---- what is found by name
+
+pub found_named : {A : Type 0} (P : A → Type 0) (name : A → Word) (x : Word) (xs : List A) → AllByRecursion P xs → IfSome (find_named name x xs) (λ a. P a × (x ≡ name a))
+found_named P name x [] all = tt
+found_named P name x (a ∷ xs) all = by_name (bytes_eq x (name a)) refl (found_named P name x xs all.1)
+  where
+    by_name : (b : Bool) → bytes_eq x (name a) ≡ b → IfSome (find_named name x xs) (λ y. P y × (x ≡ name y))
+        → IfSome (if b then Some a else find_named name x xs) (λ y. P y × (x ≡ name y))
+    by_name true same later = (all.0, same_from_true x (name a) same)
+    by_name false other later = later
+
+interfaces_all : (P : Item → Type 0) (Q : Interface → Type 0) → ((i : Interface) → P (OfInterface i) → Q i) → (is : List Item) → AllByRecursion P is → AllByRecursion Q (interfaces_of is)
+interfaces_all P Q each [] all = tt
+interfaces_all P Q each (OfClass c ∷ is) all = interfaces_all P Q each is all.1
+interfaces_all P Q each (OfInterface i ∷ is) all = (each i all.0, interfaces_all P Q each is all.1)
+interfaces_all P Q each (OfModule m ∷ is) all = interfaces_all P Q each is all.1
+interfaces_all P Q each (OfUnit u ∷ is) all = interfaces_all P Q each is all.1
+interfaces_all P Q each (OfClient c ∷ is) all = interfaces_all P Q each is all.1
+interfaces_all P Q each (OfJudgement j ∷ is) all = interfaces_all P Q each is all.1
+interfaces_all P Q each (OfPair p ∷ is) all = interfaces_all P Q each is all.1
+
+modules_all : (P : Item → Type 0) (Q : Module → Type 0) → ((m : Module) → P (OfModule m) → Q m) → (is : List Item) → AllByRecursion P is → AllByRecursion Q (modules_of is)
+modules_all P Q each [] all = tt
+modules_all P Q each (OfClass c ∷ is) all = modules_all P Q each is all.1
+modules_all P Q each (OfInterface i ∷ is) all = modules_all P Q each is all.1
+modules_all P Q each (OfModule m ∷ is) all = (each m all.0, modules_all P Q each is all.1)
+modules_all P Q each (OfUnit u ∷ is) all = modules_all P Q each is all.1
+modules_all P Q each (OfClient c ∷ is) all = modules_all P Q each is all.1
+modules_all P Q each (OfJudgement j ∷ is) all = modules_all P Q each is all.1
+modules_all P Q each (OfPair p ∷ is) all = modules_all P Q each is all.1
+
+-- ---- fields
+
+-- the fields that an item declares, and those of a list of items
+abbrev own_fields : Item → List Word
+own_fields (OfClass c) = declared_names c.fields
+own_fields _ = []
+
+abbrev fields_in : List Item → List Word
+fields_in [] = []
+fields_in (i ∷ is) = own_fields i ++ fields_in is
+
+field_names : (is : List Item) → map (λ (d : ClassField). d.name) (fields_of (class_items is)) ≡ fields_in is
+field_names [] = refl
+field_names (OfClass c ∷ is) =
+    map_append (λ (d : ClassField). d.name) (map (λ (d : Decl). record { name = d.name; class = c.name; ty = d.ty }) c.fields) (fields_of (class_items is))
+    ∙ ap (λ ns. ns ++ map (λ (d : ClassField). d.name) (fields_of (class_items is))) (map_map (λ (d : ClassField). d.name) (λ (d : Decl). record { name = d.name; class = c.name; ty = d.ty }) c.fields)
+    ∙ ap (λ ns. declared_names c.fields ++ ns) (field_names is)
+field_names (OfInterface i ∷ is) = field_names is
+field_names (OfModule m ∷ is) = field_names is
+field_names (OfUnit u ∷ is) = field_names is
+field_names (OfClient c ∷ is) = field_names is
+field_names (OfJudgement j ∷ is) = field_names is
+field_names (OfPair p ∷ is) = field_names is
+
+-- ---- items
+
+split_more : (at : ℕ) (more f : Flaws) (rest : Pass → Option Fault)
+    → HasNoFault (λ pass. first_of (fault_at pass at (either more f)) (rest pass)) ↔ (IsClean more × HasNoFault (λ pass. first_of (fault_at pass at f) (rest pass)))
+split_more at more f rest =
+    let whole = at_first at (either more f) rest in
+    let flaws = clean_both more f in
+    let part = at_first at f rest in
+    (λ h. let w = whole.0 h in let x = flaws.0 w.0 in (x.0, part.1 (x.1, w.1)), λ h. let p = part.0 h.1 in whole.1 (flaws.1 (h.0, p.0), p.1))
+
+-- What an item is without regard to the items before it: typed, or without fault where its type rests on an interface that may be wrong.
+abbrev IsFine : Bundle → Item → Type 0
+IsFine b (OfClass c) = IsTypedItem b (OfClass c)
+IsFine b (OfInterface i) = IsTypedItem b (OfInterface i)
+IsFine b (OfModule m) = HasNoFault (λ pass. module_fault (tables_of b) pass flawless (find_interface b m.interface) m)
+IsFine b (OfUnit u) = IsTypedItem b (OfUnit u)
+IsFine b (OfClient c) = HasNoFault (λ pass. client_fault (tables_of b) pass flawless (find_interface b c.interface) c)
+IsFine b (OfJudgement j) = IsTypedItem b (OfJudgement j)
+IsFine b (OfPair p) = HasNoFault (λ pass. pair_fault b pass flawless (find_module b p.left) (find_module b p.right) (interface_of_module b (find_module b p.left)) p)
+
+module _ (b : Bundle) where
+  split_module : (more : Flaws) (o : Option Interface) (m : Module)
+      → HasNoFault (λ pass. module_fault (tables_of b) pass more o m) ↔ (IsClean more × HasNoFault (λ pass. module_fault (tables_of b) pass flawless o m))
+  split_module more o m = split_more m.at more
+      (either (flaws_of_globals (tables_of b) (globals_of_interface o) m.globals) (record flawless { unknown = is_none o; missing = misses_methods o (map (λ x. x.0) m.methods) }))
+      (λ pass. first_of (clause_fault (tables_of b) pass false (globals_of (init_in_module o m)) m.invariant)
+        (first_of (module_body_fault (tables_of b) pass (init_in_module o m) (signatures_of o) m.init)
+        (first_in (λ x. module_body_fault (tables_of b) pass (method_in_module o m x) (signatures_of o) x.1) m.methods)))
+
+  split_client : (more : Flaws) (o : Option Interface) (c : Client)
+      → HasNoFault (λ pass. client_fault (tables_of b) pass more o c) ↔ (IsClean more × HasNoFault (λ pass. client_fault (tables_of b) pass flawless o c))
+  split_client more o c = split_more c.at more
+      (either (flaws_of_globals (tables_of b) (globals_of_interface o) c.globals) (record flawless { unknown = is_none o; no_main = is_none (find_main c) }))
+      (λ pass. first_named (λ (q : Proc). q.name) (λ seen q. proc_fault (tables_of b) pass (setting_in_client o c q) (callees_in_client o c) (flaws_of_client_proc o seen q) q) [] c.procs)
+
+  split_pair : (more : Flaws) (l r : Option Module) (o : Option Interface) (p : ModulePair)
+      → HasNoFault (λ pass. pair_fault b pass more l r o p) ↔ (IsClean more × HasNoFault (λ pass. pair_fault b pass flawless l r o p))
+  split_pair more l r o p = split_more p.at more
+      (record flawless { unknown = is_none l || is_none r; missing = differ_in_interface l r || misses_methods o (map (λ a. a.1) p.methods) })
+      (λ pass. first_of (rel_clause_fault (tables_of b) pass false (globals_of_side o l) (globals_of_side o r) p.coupling)
+        (first_of (align_fault (tables_of b) pass (module_sides b pass (init_of_side o l) (init_of_side o r)) p.init.1)
+        (first_in (λ a. align_fault (tables_of b) pass (module_sides b pass (method_of_side o l a.1) (method_of_side o r a.1)) a.2) p.methods)))
+
+module _ (below : Below) (b : Bundle) where
+  no_fields : (seen : List Word) (x : Word) (P : Type 0) → (IsClean (twice_where (is_among x seen)) × P) ↔ ((is_among x seen ≡ false) × ((false ≡ false) × P))
+  no_fields seen x P = iff_both (twice_clean (is_among x seen)) (λ h. (refl, h), λ h. h.1)
+
+  item_law : (seen fields : List Word) (i : Item) → HasNoFault (λ pass. item_fault b pass seen fields i)
+      ↔ ((is_among (item_name i) seen ≡ false) × ((repeats fields (own_fields i) ≡ false) × IsFine b i))
+  item_law seen fields (OfClass c) =
+      iff_then (class_law (tables_of b) fields (twice_where (is_among c.name seen)) c) (iff_both (twice_clean (is_among c.name seen)) iff_same)
+  item_law seen fields (OfInterface i) = iff_then (interface_law (tables_of b) below (twice_where (is_among i.name seen)) i) (no_fields seen i.name (IsFine b (OfInterface i)))
+  item_law seen fields (OfModule m) = iff_then (split_module b (twice_where (is_among m.name seen)) (find_interface b m.interface) m) (no_fields seen m.name (IsFine b (OfModule m)))
+  item_law seen fields (OfUnit u) = iff_then (unit_law (tables_of b) below (twice_where (is_among u.name seen)) u) (no_fields seen u.name (IsFine b (OfUnit u)))
+  item_law seen fields (OfClient c) = iff_then (split_client b (twice_where (is_among c.name seen)) (find_interface b c.interface) c) (no_fields seen c.name (IsFine b (OfClient c)))
+  item_law seen fields (OfJudgement j) =
+      iff_then (judgement_law b below (twice_where (is_among j.name seen)) (subject_of b j.left) (subject_of b j.right) j) (no_fields seen j.name (IsFine b (OfJudgement j)))
+  item_law seen fields (OfPair p) = 
+      iff_then (split_pair b (twice_where (is_among p.name seen)) (find_module b p.left) (find_module b p.right) (interface_of_module b (find_module b p.left)) p) (no_fields seen p.name (IsFine b (OfPair p)))
+
+  items_law : (seen fields : List Word) (is : List Item) → HasNoFault (λ pass. items_fault b pass seen fields is)
+      ↔ ((AreDistinct (map item_name is) × AreApart seen (map item_name is)) × ((AreDistinct (fields_in is) × AreApart fields (fields_in is)) × AllByRecursion (IsFine b) is))
+  items_law seen fields [] = (λ h. ((tt, tt), ((tt, tt), tt)), λ h. (refl, refl))
+  items_law seen fields (i ∷ is) =
+      let whole = no_fault_in_both (λ pass. item_fault b pass seen fields i) (λ pass. items_fault b pass (item_name i ∷ seen) (own_fields i ++ fields) is) in
+      let here = item_law seen fields i in
+      let rest = items_law (item_name i ∷ seen) (own_fields i ++ fields) is in
+      let among = among_is_false (item_name i) seen in
+      let names = apart_cons (item_name i) seen (map item_name is) in
+      let own = repeats_is_false fields (own_fields i) in
+      let all = distinct_append (own_fields i) (fields_in is) in
+      let before = apart_append (own_fields i) fields (fields_in is) in
+      let later = apart_of_append fields (own_fields i) (fields_in is) in
+      (
+        λ h.
+          let w = whole.0 h in
+          let e = here.0 w.0 in
+          let r = rest.0 w.1 in
+          let n = names.0 r.0.1 in
+          let o = own.0 e.1.0 in
+          let x = before.0 r.1.0.1 in
+          (((n.0, r.0.0), (among.0 e.0, n.1)), ((all.1 (o.0, r.1.0.0, x.0), later.1 (o.1, x.1)), (e.1.1, r.1.1))),
+        λ h.
+          let a = all.0 h.1.0.0 in
+          let l = later.0 h.1.0.1 in
+          whole.1 (
+            here.1 (among.1 h.0.1.0, (own.1 (a.0, l.0), h.1.1.0)),
+            rest.1 ((h.0.0.1, names.1 (h.0.0.0, h.0.1.1)), ((a.1, before.1 (a.2, l.1)), h.1.1.1)),
+          ),
+      )
