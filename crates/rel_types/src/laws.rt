@@ -19,3 +19,9 @@ pub fn try_formulas()
     ensures { (tables : Tables) (old : Bool) (sc : Scope) (p : Formula) → IsTypedFormula tables old sc p ↔ (flaws_of_formula tables old sc p ≡ flawless) }
 {
 }
+
+#[tactic(auto, using(crate::proofs::Relations::rel_law))]
+pub fn try_relations()
+    ensures { (tables : Tables) (old : Bool) (l : Scope) (r : Scope) (a : RelFormula) → IsTypedRel tables old l r a ↔ (flaws_of_rel tables old l r a ≡ flawless) }
+{
+}
