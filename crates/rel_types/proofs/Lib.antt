@@ -2,3 +2,4 @@ pub mod Clean
 pub mod Expressions
 pub mod Formulas
 pub mod Relations
+pub mod Commands

@@ -1,12 +1,14 @@
 //! Laws of the definitions of this crate.
 
 ghost use Rattle.rel_types.specs.Laws.{TypedHaveNoFault};
-ghost use Rattle.std.specs.Prelude.{◌≡◌, ◌↔◌, ℕ, Option, Some, None, Bool, true, false};
-ghost use Rattle.rel_types.specs.Flaws.{Flaws, Fault, first_of, flawless, either};
+ghost use Rattle.std.specs.Prelude.{◌≡◌, ◌↔◌, ℕ, Option, Some, None, Bool, true, false, if◌then◌else◌, List, []};
+ghost use Rattle.rel_types.specs.Flaws.{Flaws, Fault, first_of, flawless, either, Pass, ForTwice, ForOthers};
 ghost use Rattle.rel_types.specs.Inference.{has_unknown, misplaces_old, fits, infer, flaws_of_formula, flaws_of_rel, flaws_of_region};
-ghost use Rattle.rel_lang.specs.Syntax.{Expression, Ty, Formula, RelFormula, Rgn};
+ghost use Rattle.rel_types.specs.Code.{Code, block_fault};
+ghost use Rattle.rel_types.specs.Alignments.{Sides, align_fault};
+ghost use Rattle.rel_lang.specs.Syntax.{Expression, Ty, Formula, RelFormula, Rgn, Block, Align};
 ghost use Rattle.rel_lang.specs.State.{Tables, Scope};
-ghost use Rattle.rel_lang.specs.Typed.{HasType, IsTypedFormula, IsTypedRel};
+ghost use Rattle.rel_lang.specs.Typed.{HasType, IsTypedFormula, IsTypedRel, IsTypedBlock, IsTypedAlign};
 
 /// A bundle is typed exactly where it has no fault.
 pub fn a_bundle_is_typed_where_it_has_no_fault()
@@ -14,14 +16,8 @@ pub fn a_bundle_is_typed_where_it_has_no_fault()
 {
 }
 
-#[tactic(auto, using(crate::proofs::Formulas::formula_law))]
-pub fn try_formulas()
-    ensures { (tables : Tables) (old : Bool) (sc : Scope) (p : Formula) → IsTypedFormula tables old sc p ↔ (flaws_of_formula tables old sc p ≡ flawless) }
-{
-}
-
-#[tactic(auto, using(crate::proofs::Relations::rel_law))]
-pub fn try_relations()
-    ensures { (tables : Tables) (old : Bool) (l : Scope) (r : Scope) (a : RelFormula) → IsTypedRel tables old l r a ↔ (flaws_of_rel tables old l r a ≡ flawless) }
+#[tactic(auto)]
+pub fn try_blocks()
+    ensures { (tables : Tables) (code : Code) (b : Block) → IsTypedBlock tables (record { scope = code.scope; callees = if code.may_call then code.callees else [] }) b ↔ ((block_fault tables ForTwice code b ≡ None) × (block_fault tables ForOthers code b ≡ None)) }
 {
 }
