@@ -90,7 +90,7 @@ reference_of (Some v) t =
     (λ h. clean_from (record flawless { wrong_type = not (same_type v.ty t) }) refl refl refl refl refl refl refl refl refl (not_from_true (same_type v.ty t) ((type_law v.ty t).1 h)),
     λ h. (type_law v.ty t).0 (not-false (same_type v.ty t) (ap (λ x. x.wrong_type) h)))
 
-where_unknown : (k : Bool) → (k ≡ true) ↔ IsClean (unknown_where (not k))
+pub where_unknown : (k : Bool) → (k ≡ true) ↔ IsClean (unknown_where (not k))
 where_unknown k = (λ h. clean_from (unknown_where (not k)) refl (not_from_true k h) refl refl refl refl refl refl refl refl, λ h. not-false k (ap (λ x. x.unknown) h))
 
 -- ---- fields

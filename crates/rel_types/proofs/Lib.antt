@@ -3,3 +3,4 @@ pub mod Expressions
 pub mod Formulas
 pub mod Relations
 pub mod Commands
+pub mod AlignmentsTyped

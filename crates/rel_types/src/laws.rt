@@ -21,3 +21,9 @@ pub fn try_blocks()
     ensures { (tables : Tables) (code : Code) (b : Block) → IsTypedBlock tables (record { scope = code.scope; callees = if code.may_call then code.callees else [] }) b ↔ ((block_fault tables ForTwice code b ≡ None) × (block_fault tables ForOthers code b ≡ None)) }
 {
 }
+
+#[tactic(auto)]
+pub fn try_alignments()
+    ensures { (tables : Tables) (s : Sides) (a : Align) → IsTypedAlign tables (record { left = record { scope = s.left.scope; callees = if s.left.may_call then s.left.callees else [] }; right = record { scope = s.right.scope; callees = if s.right.may_call then s.right.callees else [] }; judgements = s.judgements; units = s.units }) a ↔ ((align_fault tables ForTwice s a ≡ None) × (align_fault tables ForOthers s a ≡ None)) }
+{
+}
