@@ -2,27 +2,11 @@
 use Rattle.std.proofs.Common.{◌≡◌, ℕ, Bool, true, false, not, ◌&&◌, ◌||◌, ◌↔◌, List, [], ◌∷◌, Option, Some, None, refl, ap, ◌∙◌}
 use Rattle.std.proofs.lemmas.Bool.{or_parts, or_from, and_parts, and_from, not-false, not_from_true}
 use Rattle.std.specs.List.{AllByRecursion}
+use Rattle.rel_types.proofs.Equivalences.{iff_then}
 use Rattle.rel_types.specs.Flaws.{Flaws, flawless, either, Pass, ForTwice, ForOthers, Fault, fault_at, first_of, first_in}
 
--- ---- equivalences
-
-pub through : {A B C : Type 0} → (A ↔ B) → (B ↔ C) → (A ↔ C)
-through f g = (λ a. g.0 (f.0 a), λ c. f.1 (g.1 c))
-
-pub back : {A B : Type 0} → (A ↔ B) → (B ↔ A)
-back f = (f.1, f.0)
-
-pub both : {A B C D : Type 0} → (A ↔ B) → (C ↔ D) → ((A × C) ↔ (B × D))
-both f g = (λ h. (f.0 h.0, g.0 h.1), λ h. (f.1 h.0, g.1 h.1))
-
-pub or_law : (x y : Bool) → ((x || y) ≡ false) ↔ ((x ≡ false) × (y ≡ false))
-or_law x y = (λ h. or_parts x y h, λ h. or_from x y h.0 h.1)
-
-pub and_law : (x y : Bool) → ((x && y) ≡ true) ↔ ((x ≡ true) × (y ≡ true))
-and_law x y = (λ h. and_parts x y h, λ h. and_from x y h.0 h.1)
-
-pub not_law : (x : Bool) → (not x ≡ false) ↔ (x ≡ true)
-not_law x = (λ h. not-false x h, λ h. not_from_true x h)
+pub or_false : (a b : Bool) → ((a || b) ≡ false) ↔ ((a ≡ false) × (b ≡ false))
+or_false a b = (λ h. or_parts a b h, λ h. or_from a b h.0 h.1)
 
 -- ---- flaws
 
@@ -34,20 +18,45 @@ clean_of : (a b c d e f g h i j : Bool) → a ≡ false → b ≡ false → c �
     → IsClean (record { twice = a; unknown = b; missing = c; no_main = d; not_visible = e; wrong_arity = f; target = g; old_here = h; not_code = i; wrong_type = j })
 clean_of a b c d e f g h i j ea eb ec ed ee ef eg eh ei ej = rw (ea, eb, ec, ed, ee, ef, eg, eh, ei, ej) refl
 
-pub clean_from : (f : Flaws) → f.twice ≡ false → f.unknown ≡ false → f.missing ≡ false → f.no_main ≡ false → f.not_visible ≡ false → f.wrong_arity ≡ false → f.target ≡ false
-    → f.old_here ≡ false → f.not_code ≡ false → f.wrong_type ≡ false → IsClean f
-clean_from f = clean_of f.twice f.unknown f.missing f.no_main f.not_visible f.wrong_arity f.target f.old_here f.not_code f.wrong_type
+-- each flaw is absent
+pub record AreAbsent (f : Flaws) : Type 0 where
+  pub twice : f.twice ≡ false
+  pub unknown : f.unknown ≡ false
+  pub missing : f.missing ≡ false
+  pub no_main : f.no_main ≡ false
+  pub not_visible : f.not_visible ≡ false
+  pub wrong_arity : f.wrong_arity ≡ false
+  pub target : f.target ≡ false
+  pub old_here : f.old_here ≡ false
+  pub not_code : f.not_code ≡ false
+  pub wrong_type : f.wrong_type ≡ false
 
-pub clean_either : (f g : Flaws) → IsClean (either f g) ↔ (IsClean f × IsClean g)
-clean_either f g =
-    (λ h. (
-      clean_from f (or_parts _ _ (ap (λ x. x.twice) h)).0 (or_parts _ _ (ap (λ x. x.unknown) h)).0 (or_parts _ _ (ap (λ x. x.missing) h)).0 (or_parts _ _ (ap (λ x. x.no_main) h)).0
-      (or_parts _ _ (ap (λ x. x.not_visible) h)).0 (or_parts _ _ (ap (λ x. x.wrong_arity) h)).0 (or_parts _ _ (ap (λ x. x.target) h)).0 (or_parts _ _ (ap (λ x. x.old_here) h)).0
-      (or_parts _ _ (ap (λ x. x.not_code) h)).0 (or_parts _ _ (ap (λ x. x.wrong_type) h)).0,
-      clean_from g (or_parts _ _ (ap (λ x. x.twice) h)).1 (or_parts _ _ (ap (λ x. x.unknown) h)).1 (or_parts _ _ (ap (λ x. x.missing) h)).1 (or_parts _ _ (ap (λ x. x.no_main) h)).1
-      (or_parts _ _ (ap (λ x. x.not_visible) h)).1 (or_parts _ _ (ap (λ x. x.wrong_arity) h)).1 (or_parts _ _ (ap (λ x. x.target) h)).1 (or_parts _ _ (ap (λ x. x.old_here) h)).1
-      (or_parts _ _ (ap (λ x. x.not_code) h)).1 (or_parts _ _ (ap (λ x. x.wrong_type) h)).1
-    ), λ h. ap (λ x. either x g) h.0 ∙ h.1)
+pub clean_parts : (f : Flaws) → IsClean f → AreAbsent f
+clean_parts f e = record {
+  twice = ap (λ g. g.twice) e; unknown = ap (λ g. g.unknown) e; missing = ap (λ g. g.missing) e; no_main = ap (λ g. g.no_main) e;
+  not_visible = ap (λ g. g.not_visible) e; wrong_arity = ap (λ g. g.wrong_arity) e; target = ap (λ g. g.target) e;
+  old_here = ap (λ g. g.old_here) e; not_code = ap (λ g. g.not_code) e; wrong_type = ap (λ g. g.wrong_type) e;
+}
+
+pub clean_whole : (f : Flaws) → AreAbsent f → IsClean f
+clean_whole f a = clean_of f.twice f.unknown f.missing f.no_main f.not_visible f.wrong_arity f.target f.old_here f.not_code f.wrong_type a.twice a.unknown a.missing a.no_main a.not_visible a.wrong_arity a.target a.old_here a.not_code a.wrong_type
+
+pub clean_both : (f g : Flaws) → IsClean (either f g) ↔ (IsClean f × IsClean g)
+clean_both f g =
+    (λ h.
+      let p = clean_parts (either f g) h in
+      (clean_whole f (record {
+        twice = (or_parts f.twice g.twice p.twice).0; unknown = (or_parts f.unknown g.unknown p.unknown).0; missing = (or_parts f.missing g.missing p.missing).0;
+        no_main = (or_parts f.no_main g.no_main p.no_main).0; not_visible = (or_parts f.not_visible g.not_visible p.not_visible).0; wrong_arity = (or_parts f.wrong_arity g.wrong_arity p.wrong_arity).0;
+        target = (or_parts f.target g.target p.target).0; old_here = (or_parts f.old_here g.old_here p.old_here).0; not_code = (or_parts f.not_code g.not_code p.not_code).0;
+        wrong_type = (or_parts f.wrong_type g.wrong_type p.wrong_type).0;
+      }), clean_whole g (record {
+        twice = (or_parts f.twice g.twice p.twice).1; unknown = (or_parts f.unknown g.unknown p.unknown).1; missing = (or_parts f.missing g.missing p.missing).1;
+        no_main = (or_parts f.no_main g.no_main p.no_main).1; not_visible = (or_parts f.not_visible g.not_visible p.not_visible).1; wrong_arity = (or_parts f.wrong_arity g.wrong_arity p.wrong_arity).1;
+        target = (or_parts f.target g.target p.target).1; old_here = (or_parts f.old_here g.old_here p.old_here).1; not_code = (or_parts f.not_code g.not_code p.not_code).1;
+        wrong_type = (or_parts f.wrong_type g.wrong_type p.wrong_type).1;
+      })),
+    λ h. ap (λ x. either x g) h.0 ∙ h.1)
 
 -- ---- faults
 
@@ -71,28 +80,23 @@ no_fault at false false false false false false false false true j x y = absurd 
 no_fault at false false false false false false false false false true x y = absurd cc
 no_fault at false false false false false false false false false false x y = refl
 
-pub fault_law : (at : ℕ) (f : Flaws) → HasNoFault (λ pass. fault_at pass at f) ↔ IsClean f
-fault_law at f =
+pub no_fault_at : (at : ℕ) (f : Flaws) → HasNoFault (λ pass. fault_at pass at f) ↔ IsClean f
+no_fault_at at f =
     (λ h. no_fault at f.twice f.unknown f.missing f.no_main f.not_visible f.wrong_arity f.target f.old_here f.not_code f.wrong_type h.0 h.1,
     λ h. (ap (λ g. fault_at ForTwice at g) h, ap (λ g. fault_at ForOthers at g) h))
 
-pub none_of : (a b : Option Fault) → (first_of a b ≡ None) ↔ ((a ≡ None) × (b ≡ None))
-none_of None b = (λ h. (refl, h), λ h. h.1)
-none_of (Some f) b = (λ h. absurd cc, λ h. absurd cc)
+pub first_none : (a b : Option Fault) → (first_of a b ≡ None) ↔ ((a ≡ None) × (b ≡ None))
+first_none None b = (λ h. (refl, h), λ h. h.1)
+first_none (Some f) b = (λ h. absurd cc, λ h. absurd cc)
 
-pub first_law : (a b : Pass → Option Fault) → HasNoFault (λ pass. first_of (a pass) (b pass)) ↔ (HasNoFault a × HasNoFault b)
-first_law a b =
+pub no_fault_in_both : (a b : Pass → Option Fault) → HasNoFault (λ pass. first_of (a pass) (b pass)) ↔ (HasNoFault a × HasNoFault b)
+no_fault_in_both a b =
     (λ h.
-      let x = (none_of (a ForTwice) (b ForTwice)).0 h.0 in
-      let y = (none_of (a ForOthers) (b ForOthers)).0 h.1 in
+      let x = (first_none (a ForTwice) (b ForTwice)).0 h.0 in
+      let y = (first_none (a ForOthers) (b ForOthers)).0 h.1 in
       ((x.0, y.0), (x.1, y.1)),
-    λ h. ((none_of (a ForTwice) (b ForTwice)).1 (h.0.0, h.1.0), (none_of (a ForOthers) (b ForOthers)).1 (h.0.1, h.1.1)))
+    λ h. ((first_none (a ForTwice) (b ForTwice)).1 (h.0.0, h.1.0), (first_none (a ForOthers) (b ForOthers)).1 (h.0.1, h.1.1)))
 
-pub list_law : {X : Type 0} (fault : Pass → X → Option Fault) (xs : List X) → HasNoFault (λ pass. first_in (fault pass) xs) ↔ AllByRecursion (λ x. HasNoFault (λ pass. fault pass x)) xs
-list_law fault [] = (λ h. tt, λ h. (refl, refl))
-list_law fault (x ∷ xs) = through (first_law (λ pass. fault pass x) (λ pass. first_in (fault pass) xs)) ((λ h. (h.0, (list_law fault xs).0 h.1)), (λ h. (h.0, (list_law fault xs).1 h.1)))
-
--- a list where each member is as a law says
-pub all_law : {X : Type 0} (P Q : X → Type 0) → ((x : X) → P x ↔ Q x) → (xs : List X) → AllByRecursion P xs ↔ AllByRecursion Q xs
-all_law P Q law [] = (λ h. tt, λ h. tt)
-all_law P Q law (x ∷ xs) = (λ h. ((law x).0 h.0, (all_law P Q law xs).0 h.1), λ h. ((law x).1 h.0, (all_law P Q law xs).1 h.1))
+pub no_fault_in_list : {X : Type 0} (fault : Pass → X → Option Fault) (xs : List X) → HasNoFault (λ pass. first_in (fault pass) xs) ↔ AllByRecursion (λ x. HasNoFault (λ pass. fault pass x)) xs
+no_fault_in_list fault [] = (λ h. tt, λ h. (refl, refl))
+no_fault_in_list fault (x ∷ xs) = iff_then (no_fault_in_both (λ pass. fault pass x) (λ pass. first_in (fault pass) xs)) ((λ h. (h.0, (no_fault_in_list fault xs).0 h.1)), (λ h. (h.0, (no_fault_in_list fault xs).1 h.1)))

@@ -7,7 +7,7 @@ use Rattle.rel_lang.specs.Syntax.{Word, Ty, Int, Rgn, Class, Expression, Var, Nu
 use Rattle.rel_lang.specs.State.{Tables, ClassField, find_field, Scope, Variable, find_variable}
 use Rattle.rel_lang.specs.Typed.{IsAmong, IsReferenceType, IsClass, HasType}
 use Rattle.rel_types.specs.Inference.{is_among, same_type, is_class_type, Inferred, NoType, AnyClass, Exactly, fits, is_reference, have_one_type, typed_where, type_of_variable, type_of_field, type_of_image, misplaces_old, is_class, has_unknown, infer}
-use Rattle.rel_types.proofs.Clean.{back}
+use Rattle.rel_types.proofs.Equivalences.{iff_back}
 
 -- ---- names
 
@@ -20,7 +20,7 @@ either_law false y p q = (⊎_elim (λ a. absurd (no (p.0 a))) q.0, λ h. inr (q
 
 pub among_law : (x : Word) (ys : List Word) → IsAmong x ys ↔ (is_among x ys ≡ true)
 among_law x [] = (λ h. absurd h, λ h. absurd cc)
-among_law x (y ∷ ys) = either_law (bytes_eq x y) (is_among x ys) (back (bytes_eq-Decides x y)) (among_law x ys)
+among_law x (y ∷ ys) = either_law (bytes_eq x y) (is_among x ys) (iff_back (bytes_eq-Decides x y)) (among_law x ys)
 
 -- ---- types
 

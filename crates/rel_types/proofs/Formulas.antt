@@ -8,7 +8,8 @@ use Rattle.rel_lang.specs.Truth.{quantified}
 use Rattle.rel_lang.specs.Typed.{HasType, IsTypedFormula}
 use Rattle.rel_types.specs.Flaws.{Flaws, flawless, either}
 use Rattle.rel_types.specs.Inference.{Inferred, fits, is_reference, have_one_type, infer, is_class, flaws_of_formula, flaws_of_region}
-use Rattle.rel_types.proofs.Clean.{through, back, both, IsClean, clean_from, clean_either}
+use Rattle.rel_types.proofs.Equivalences.{iff_then, iff_back, iff_both}
+use Rattle.rel_types.proofs.Clean.{IsClean, clean_both}
 use Rattle.rel_types.proofs.Expressions.{AreFine, among_law, reference_law, one_type_law, expression_law}
 
 -- the flaws that a formula can have
@@ -18,14 +19,14 @@ four twice unknown misplaced ill = record flawless { twice = twice; unknown = un
 pub four_law : (twice unknown misplaced ill : Bool) → IsClean (four twice unknown misplaced ill) ↔ ((twice ≡ false) × (unknown ≡ false) × (misplaced ≡ false) × (ill ≡ false))
 four_law twice unknown misplaced ill =
     (λ h. (ap (λ f. f.twice) h, ap (λ f. f.unknown) h, ap (λ f. f.old_here) h, ap (λ f. f.wrong_type) h),
-    λ h. clean_from (four twice unknown misplaced ill) h.0 h.1 refl refl refl refl refl h.2 refl h.3)
+    λ h. rw (h.0, h.1, h.2, h.3) refl)
 
 -- ---- comparisons
 
 -- two that each have one of two types
 pub pair_law : {A B : Type 0} (u v m n f g : Bool) → (A ↔ AreFine u m f) → (B ↔ AreFine v n g) → (A × B) ↔ IsClean (four false (u || v) (m || n) (not (f && g)))
 pair_law u v m n f g p q =
-    through
+    iff_then
     (λ h.
       let x = p.0 h.0 in
       let y = q.0 h.1 in
@@ -35,13 +36,13 @@ pair_law u v m n f g p q =
       let b = or_parts m n h.2 in
       let d = and_parts f g (not-false (f && g) h.3) in
       (p.1 (a.0, b.0, d.0), q.1 (a.1, b.1, d.1)))
-    (back (four_law false (u || v) (m || n) (not (f && g))))
+    (iff_back (four_law false (u || v) (m || n) (not (f && g))))
 
 -- two that have one type in common
 pub equal_law : (A B : Ty → Type 0) (u v m n : Bool) (i j : Inferred) → ((t : Ty) → A t ↔ AreFine u m (fits i t)) → ((t : Ty) → B t ↔ AreFine v n (fits j t))
     → ((t : Ty) × A t × B t) ↔ IsClean (four false (u || v) (m || n) (not (have_one_type i j)))
 equal_law A B u v m n i j p q =
-    through
+    iff_then
     (λ h.
       let x = (p h.0).0 h.1 in
       let y = (q h.0).0 h.2 in
@@ -51,12 +52,12 @@ equal_law A B u v m n i j p q =
       let b = or_parts m n h.2 in
       let t = (one_type_law i j).1 (not-false (have_one_type i j) h.3) in
       (t.0, (p t.0).1 (a.0, b.0, t.1), (q t.0).1 (a.1, b.1, t.2)))
-    (back (four_law false (u || v) (m || n) (not (have_one_type i j))))
+    (iff_back (four_law false (u || v) (m || n) (not (have_one_type i j))))
 
 member_law : (A : Ty → Type 0) {B : Type 0} (u v m n g : Bool) (i : Inferred) → ((t : Ty) → A t ↔ AreFine u m (fits i t)) → (B ↔ AreFine v n g)
     → ((c : Word) × A (Class c) × B) ↔ IsClean (four false (u || v) (m || n) (not (is_reference i && g)))
 member_law A u v m n g i p q =
-    through
+    iff_then
     (λ h.
       let x = (p (Class h.0)).0 h.1 in
       let y = q.0 h.2 in
@@ -67,7 +68,7 @@ member_law A u v m n g i p q =
       let d = and_parts (is_reference i) g (not-false (is_reference i && g) h.3) in
       let c = (reference_law i).1 d.0 in
       (c.0, (p (Class c.0)).1 (a.0, b.0, c.1), q.1 (a.1, b.1, d.1)))
-    (back (four_law false (u || v) (m || n) (not (is_reference i && g))))
+    (iff_back (four_law false (u || v) (m || n) (not (is_reference i && g))))
 
 -- ---- quantifiers
 
@@ -75,7 +76,7 @@ member_law A u v m n g i p q =
 pub quantifier_law : {C A B : Type 0} (s k u m f bt bu bm bi : Bool) → (C ↔ (k ≡ true)) → (A ↔ AreFine u m f) → (B ↔ IsClean (four bt bu bm bi))
     → (((s ≡ false) × C) × A × B) ↔ IsClean (four (s || bt) (not k || u || bu) (m || bm) (not f || bi))
 quantifier_law s k u m f bt bu bm bi c p q =
-    through
+    iff_then
     (λ h.
       let x = p.0 h.1 in
       let y = (four_law bt bu bm bi).0 (q.0 h.2) in
@@ -87,12 +88,12 @@ quantifier_law s k u m f bt bu bm bi c p q =
       let e = or_parts m bm h.2 in
       let g = or_parts (not f) bi h.3 in
       ((a.0, c.1 (not-false k d.0)), p.1 (d.1, e.0, not-false f g.0), q.1 ((four_law bt bu bm bi).1 (a.1, b.1, e.1, g.1))))
-    (back (four_law (s || bt) (not k || u || bu) (m || bm) (not f || bi)))
+    (iff_back (four_law (s || bt) (not k || u || bu) (m || bm) (not f || bi)))
 
 -- ---- formulas
 
 pub two_clean : {A B : Type 0} (f g : Flaws) → (A ↔ IsClean f) → (B ↔ IsClean g) → (A × B) ↔ IsClean (either f g)
-two_clean f g p q = through (both p q) (back (clean_either f g))
+two_clean f g p q = iff_then (iff_both p q) (iff_back (clean_both f g))
 
 pub formula_law : (tables : Tables) (old : Bool) (sc : Scope) (p : Formula) → IsTypedFormula tables old sc p ↔ IsClean (flaws_of_formula tables old sc p)
 formula_law tables old sc True = (λ h. refl, λ h. tt)
@@ -114,8 +115,8 @@ formula_law tables old sc (Exists x c g p) =
 -- ---- regions
 
 pub region_law : (tables : Tables) (sc : Scope) (g : Expression) → HasType tables false sc g Rgn ↔ IsClean (flaws_of_region tables sc g)
-region_law tables sc g = through (expression_law tables false sc g Rgn) (three_law _ _ _)
+region_law tables sc g = iff_then (expression_law tables false sc g Rgn) (three_law _ _ _)
   where
     three_law : (u m f : Bool) → AreFine u m f ↔ IsClean (four false u m (not f))
     three_law u m f =
-        through (λ h. (refl, h.0, h.1, not_from_true f h.2), λ (h : (false ≡ false) × (u ≡ false) × (m ≡ false) × (not f ≡ false)). (h.1, h.2, not-false f h.3)) (back (four_law false u m (not f)))
+        iff_then (λ h. (refl, h.0, h.1, not_from_true f h.2), λ (h : (false ≡ false) × (u ≡ false) × (m ≡ false) × (not f ≡ false)). (h.1, h.2, not-false f h.3)) (iff_back (four_law false u m (not f)))

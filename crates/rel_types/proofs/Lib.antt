@@ -1,3 +1,4 @@
+pub mod Equivalences
 pub mod Clean
 pub mod Expressions
 pub mod Formulas

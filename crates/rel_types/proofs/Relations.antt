@@ -7,14 +7,15 @@ use Rattle.rel_lang.specs.State.{Tables, find_field, Scope, find_variable}
 use Rattle.rel_lang.specs.Truth.{quantified}
 use Rattle.rel_lang.specs.Typed.{HasType, IsTypedRel}
 use Rattle.rel_types.specs.Inference.{infer, is_class, flaws_of_rel}
-use Rattle.rel_types.proofs.Clean.{through, back, IsClean}
+use Rattle.rel_types.proofs.Equivalences.{iff_then, iff_back}
+use Rattle.rel_types.proofs.Clean.{IsClean}
 use Rattle.rel_types.proofs.Expressions.{AreFine, among_law, expression_law}
 use Rattle.rel_types.proofs.Formulas.{four, four_law, equal_law, quantifier_law, two_clean, formula_law}
 
 -- one region on both sides, and a field
 image_law : {A B : Type 0} (u v m f g k : Bool) → (A ↔ AreFine u m f) → (B ↔ AreFine v m g) → (A × B × (k ≡ true)) ↔ IsClean (four false (u || v || not k) m (not (f && g)))
 image_law u v m f g k p q =
-    through
+    iff_then
     (λ h.
       let x = p.0 h.0 in
       let y = q.0 h.1 in
@@ -24,12 +25,12 @@ image_law u v m f g k p q =
       let b = or_parts u v a.0 in
       let d = and_parts f g (not-false (f && g) h.3) in
       (p.1 (b.0, h.2, d.0), q.1 (b.1, h.2, d.1), not-false k a.1))
-    (back (four_law false (u || v || not k) m (not (f && g))))
+    (iff_back (four_law false (u || v || not k) m (not (f && g))))
 
 -- two formulas in which `old` is misplaced alike
 alike_law : {A B : Type 0} (s t u v m f g : Bool) → (A ↔ IsClean (four s u m f)) → (B ↔ IsClean (four t v m g)) → (A × B) ↔ IsClean (four (s || t) (u || v) m (f || g))
 alike_law s t u v m f g p q =
-    through
+    iff_then
     (λ h.
       let x = (four_law s u m f).0 (p.0 h.0) in
       let y = (four_law t v m g).0 (q.0 h.1) in
@@ -39,7 +40,7 @@ alike_law s t u v m f g p q =
       let b = or_parts u v h.1 in
       let d = or_parts f g h.3 in
       (p.1 ((four_law s u m f).1 (a.0, b.0, h.2, d.0)), q.1 ((four_law t v m g).1 (a.1, b.1, h.2, d.1))))
-    (back (four_law (s || t) (u || v) m (f || g)))
+    (iff_back (four_law (s || t) (u || v) m (f || g)))
 
 pub rel_law : (tables : Tables) (old : Bool) (l r : Scope) (a : RelFormula) → IsTypedRel tables old l r a ↔ IsClean (flaws_of_rel tables old l r a)
 rel_law tables old l r RelTrue = (λ h. refl, λ h. tt)
