@@ -1,17 +1,16 @@
 -- An alignment is typed exactly where it has no fault.
-use Rattle.std.proofs.Common.{◌≡◌, ℕ, Bool, true, false, not, ◌&&◌, ◌||◌, ◌↔◌, List, [], ◌∷◌, Option, Some, None, IsSomeAnd, refl, sym, ap, subst, ◌∙◌}
+use Rattle.std.proofs.Common.{◌≡◌, ℕ, Bool, true, false, not, ◌&&◌, ◌||◌, ◌↔◌, Option, Some, None, IsSomeAnd, refl, sym, ap, ◌∙◌}
 use Rattle.std.specs.Prelude.{bytes_eq, is_some}
-use Rattle.std.specs.List.{AllByRecursion}
-use Rattle.std.proofs.lemmas.Bool.{or_parts, or_from, and_parts, and_from, not-false, not_from_true}
+use Rattle.std.proofs.lemmas.Bool.{and_parts, and_from, not-false}
 use Rattle.std.proofs.lemmas.Slice.Eq.{bytes_eq-Decides}
-use Rattle.rel_lang.specs.Syntax.{Word, Ty, Int, Rgn, Class, Formula, RelFormula, Command, At, Form, Skip, Assign, Load, Store, New, Call, If, While, Block, BiLoop, BiCommand, BiAt, BiForm, Split, Sync, SyncCall, BiIf, BiWhile, Link, Note, BiBlock, BiEnd, BiThen, Act, ActSeq, ActSync, ActCall, ActIf, ActWhile, ActLink, ActNote, ActDrop, WeaveStep, Align, Given, Woven, Judgement}
+use Rattle.rel_lang.specs.Syntax.{Word, Ty, Int, Rgn, Class, Formula, RelFormula, Command, At, Skip, Assign, Load, Store, New, Call, If, While, BiLoop, BiCommand, BiAt, BiForm, Split, Sync, SyncCall, BiIf, BiWhile, Link, Note, BiBlock, BiEnd, BiThen, Act, ActSeq, ActSync, ActCall, ActIf, ActWhile, ActLink, ActNote, ActDrop, Align, Given, Woven, Judgement}
 use Rattle.rel_lang.specs.State.{Tables, Variable, find_variable}
 use Rattle.rel_lang.specs.Lookup.{find_judgement}
 use Rattle.rel_lang.specs.Typed as typed
 use Rattle.rel_lang.specs.Typed.{IsTypedCommand, IsTypedBicommand, IsTypedBiblock, IsTypedAct, IsTypedAlign, IsCallBy, IsTest, IsTypedFormula}
-use Rattle.rel_types.specs.Flaws.{Flaws, flawless, either, Pass, Fault, fault_at, first_of, first_in}
+use Rattle.rel_types.specs.Flaws.{flawless, either, fault_at, first_of}
 use Rattle.rel_types.specs.Inference.{same_type, is_class_type, flaws_of_formula, flaws_of_test}
-use Rattle.rel_types.specs.Code.{unknown_where, flaws_of_form, inner_fault, block_fault}
+use Rattle.rel_types.specs.Code.{flaws_of_form, inner_fault, block_fault}
 use Rattle.rel_types.specs.Alignments.{Sides, same_subject, is_about_procedures, is_about, is_call_by, are_linked, flaws_of_link, flaws_of_relation, flaws_of_tests, flaws_of_loop, flaws_of_biform, flaws_of_act, joint_fault, bicommand_fault, inner_bifault, biblock_fault, step_fault, align_fault}
 use Rattle.rel_types.proofs.Equivalences.{iff_then, iff_back, iff_both, iff_all}
 use Rattle.rel_types.proofs.Clean.{IsClean, clean_both, HasNoFault, no_fault_at, no_fault_in_both, no_fault_in_list}
@@ -27,9 +26,10 @@ typed_sides s = record { left = names_in s.left; right = names_in s.right; judge
 -- ---- judgements
 
 same_law : (a b : Word × Word) → (same_subject a b ≡ true) ↔ (a ≡ b)
-same_law a b =
-    (λ h. let e = and_parts (bytes_eq a.0 b.0) (bytes_eq a.1 b.1) h in equal ((bytes_eq-Decides a.0 b.0).0 e.0) ((bytes_eq-Decides a.1 b.1).0 e.1),
-    λ h. and_from (bytes_eq a.0 b.0) (bytes_eq a.1 b.1) ((bytes_eq-Decides a.0 b.0).1 (ap (λ x. x.0) h)) ((bytes_eq-Decides a.1 b.1).1 (ap (λ x. x.1) h)))
+same_law a b = (
+  λ h. let e = and_parts (bytes_eq a.0 b.0) (bytes_eq a.1 b.1) h in equal ((bytes_eq-Decides a.0 b.0).0 e.0) ((bytes_eq-Decides a.1 b.1).0 e.1),
+  λ h. and_from (bytes_eq a.0 b.0) (bytes_eq a.1 b.1) ((bytes_eq-Decides a.0 b.0).1 (ap (λ x. x.0) h)) ((bytes_eq-Decides a.1 b.1).1 (ap (λ x. x.1) h)),
+)
   where
     equal : a.0 ≡ b.0 → a.1 ≡ b.1 → a ≡ b
     equal e f = ap (λ x. (x, a.1)) e ∙ ap (λ y. (b.0, y)) f
@@ -39,9 +39,10 @@ about_law s j p = with_units s.units
   where
     with_judgement : (u : Word × Word) (o : Option Judgement) → IsSomeAnd o (λ k. (k.left ≡ (u.0, p)) × (k.right ≡ (u.1, p))) ↔ (is_about_procedures p u o ≡ true)
     with_judgement u None = (λ h. absurd h, λ h. absurd cc)
-    with_judgement u (Some k) =
-        (λ h. and_from (same_subject k.left (u.0, p)) (same_subject k.right (u.1, p)) ((same_law k.left (u.0, p)).1 h.0) ((same_law k.right (u.1, p)).1 h.1),
-        λ h. let e = and_parts (same_subject k.left (u.0, p)) (same_subject k.right (u.1, p)) h in ((same_law k.left (u.0, p)).0 e.0, (same_law k.right (u.1, p)).0 e.1))
+    with_judgement u (Some k) = (
+      λ h. and_from (same_subject k.left (u.0, p)) (same_subject k.right (u.1, p)) ((same_law k.left (u.0, p)).1 h.0) ((same_law k.right (u.1, p)).1 h.1),
+      λ h. let e = and_parts (same_subject k.left (u.0, p)) (same_subject k.right (u.1, p)) h in ((same_law k.left (u.0, p)).0 e.0, (same_law k.right (u.1, p)).0 e.1),
+    )
 
     with_units : (o : Option (Word × Word)) → IsSomeAnd o (λ u. IsSomeAnd (find_judgement j s.judgements) (λ k. (k.left ≡ (u.0, p)) × (k.right ≡ (u.1, p)))) ↔ (is_about o j p s.judgements ≡ true)
     with_units None = (λ h. absurd h, λ h. absurd cc)
@@ -65,12 +66,13 @@ call_by_law s j (At at (While t i b)) = never
 linked_law : (v w : Option Variable) → ((c : Word) × IsSomeAnd v (λ x. x.ty ≡ Class c) × IsSomeAnd w (λ y. y.ty ≡ Class c)) ↔ IsClean (record flawless { unknown = not (is_some v) || not (is_some w); wrong_type = not (are_linked v w) })
 linked_law None w = (λ h. absurd h.1, λ h. let e = ap (λ x. x.unknown) h in absurd cc)
 linked_law (Some v) None = (λ h. absurd h.2, λ h. let e = ap (λ x. x.unknown) h in absurd cc)
-linked_law (Some v) (Some w) =
-    (λ h. ap (λ b. record flawless { wrong_type = not b }) (and_from (is_class_type v.ty) (same_type v.ty w.ty) (ap is_class_type h.1) ((type_law v.ty w.ty).1 (h.1 ∙ sym h.2))),
-    λ h.
+linked_law (Some v) (Some w) = (
+  λ h. ap (λ b. record flawless { wrong_type = not b }) (and_from (is_class_type v.ty) (same_type v.ty w.ty) (ap is_class_type h.1) ((type_law v.ty w.ty).1 (h.1 ∙ sym h.2))),
+  λ h.
       let e = and_parts (is_class_type v.ty) (same_type v.ty w.ty) (not-false (is_class_type v.ty && same_type v.ty w.ty) (ap (λ x. x.wrong_type) h)) in
       let c = class_of v.ty e.0 in
-      (c.0, c.1, sym ((type_law v.ty w.ty).0 e.1) ∙ c.1))
+      (c.0, c.1, sym ((type_law v.ty w.ty).0 e.1) ∙ c.1),
+)
   where
     class_of : (t : Ty) → is_class_type t ≡ true → (c : Word) × (t ≡ Class c)
     class_of Int e = absurd cc
@@ -109,25 +111,27 @@ module _ (tables : Tables) (s : Sides) where
       let flaws = clean_both (flaws_of_form tables s.left f) (flaws_of_form tables s.right f) in
       let place = no_fault_at at (either (flaws_of_form tables s.left f) (flaws_of_form tables s.right f)) in
       let inner = no_fault_in_both (λ pass. inner_fault tables pass s.left f) (λ pass. inner_fault tables pass s.right f) in
-      let sum = no_fault_in_both (λ pass. fault_at pass at (either (flaws_of_form tables s.left f) (flaws_of_form tables s.right f))) (λ pass. first_of (inner_fault tables pass s.left f) (inner_fault tables pass s.right f)) in
-      (λ h.
-        let x = left.0 h.0 in
-        let y = right.0 h.1 in
-        sum.1 (place.1 (flaws.1 (x.0, y.0)), inner.1 (x.1, y.1)),
-      λ h.
-        let a = sum.0 h in
-        let b = flaws.0 (place.0 a.0) in
-        let d = inner.0 a.1 in
-        (left.1 (b.0, d.0), right.1 (b.1, d.1)))
+      let sum = no_fault_in_both (λ pass. fault_at pass at (either (flaws_of_form tables s.left f) (flaws_of_form tables s.right f))) (λ pass. first_of (inner_fault tables pass s.left f) (inner_fault tables pass s.right f)) in (
+        λ h.
+            let x = left.0 h.0 in
+            let y = right.0 h.1 in
+            sum.1 (place.1 (flaws.1 (x.0, y.0)), inner.1 (x.1, y.1)),
+        λ h.
+            let a = sum.0 h in
+            let b = flaws.0 (place.0 a.0) in
+            let d = inner.0 a.1 in
+            (left.1 (b.0, d.0), right.1 (b.1, d.1)),
+      )
 
   abbrev IsFineBiform : BiForm → Type 0
   IsFineBiform f = IsClean (flaws_of_biform tables s f) × HasNoFault (λ pass. inner_bifault tables pass s f)
 
   while_law : (at : ℕ) (l : BiLoop) (b : BiBlock) → (IsTypedBiblock tables (typed_sides s) b ↔ HasNoFault (λ pass. biblock_fault tables pass s b)) → IsTypedBicommand tables (typed_sides s) (BiAt at (BiWhile l b)) ↔ IsFineBiform (BiWhile l b)
   while_law at l b body =
-      let loop = loop_law l in
-      (λ h. (loop.0 ((h.0, h.1), ((h.2, h.3), (h.4, (h.5, h.6)))), body.0 h.7),
-      λ h. let x = loop.1 h.0 in (x.0.0, x.0.1, x.1.0.0, x.1.0.1, x.1.1.0, x.1.1.1.0, x.1.1.1.1, body.1 h.1))
+      let loop = loop_law l in (
+        λ h. (loop.0 ((h.0, h.1), ((h.2, h.3), (h.4, (h.5, h.6)))), body.0 h.7),
+        λ h. let x = loop.1 h.0 in (x.0.0, x.0.1, x.1.0.0, x.1.0.1, x.1.1.0, x.1.1.1.0, x.1.1.1.1, body.1 h.1),
+      )
 
   mutual
     biform_law : (at : ℕ) (f : BiForm) → IsTypedBicommand tables (typed_sides s) (BiAt at f) ↔ IsFineBiform f

@@ -1,6 +1,6 @@
 -- When there is no flaw, and no fault.
-use Rattle.std.proofs.Common.{◌≡◌, ℕ, Bool, true, false, not, ◌&&◌, ◌||◌, ◌↔◌, List, [], ◌∷◌, Option, Some, None, refl, ap, ◌∙◌}
-use Rattle.std.proofs.lemmas.Bool.{or_parts, or_from, and_parts, and_from, not-false, not_from_true}
+use Rattle.std.proofs.Common.{◌≡◌, ℕ, Bool, true, false, ◌||◌, ◌↔◌, List, [], ◌∷◌, Option, Some, None, refl, ap, ◌∙◌}
+use Rattle.std.proofs.lemmas.Bool.{or_parts, or_from}
 use Rattle.std.specs.List.{AllByRecursion}
 use Rattle.rel_types.proofs.Equivalences.{iff_then}
 use Rattle.rel_types.specs.Flaws.{Flaws, flawless, either, Pass, ForTwice, ForOthers, Fault, fault_at, first_of, first_in}
@@ -33,30 +33,52 @@ pub record AreAbsent (f : Flaws) : Type 0 where
 
 pub clean_parts : (f : Flaws) → IsClean f → AreAbsent f
 clean_parts f e = record {
-  twice = ap (λ g. g.twice) e; unknown = ap (λ g. g.unknown) e; missing = ap (λ g. g.missing) e; no_main = ap (λ g. g.no_main) e;
-  not_visible = ap (λ g. g.not_visible) e; wrong_arity = ap (λ g. g.wrong_arity) e; target = ap (λ g. g.target) e;
-  old_here = ap (λ g. g.old_here) e; not_code = ap (λ g. g.not_code) e; wrong_type = ap (λ g. g.wrong_type) e;
+  twice = ap (λ g. g.twice) e;
+  unknown = ap (λ g. g.unknown) e;
+  missing = ap (λ g. g.missing) e;
+  no_main = ap (λ g. g.no_main) e;
+  not_visible = ap (λ g. g.not_visible) e;
+  wrong_arity = ap (λ g. g.wrong_arity) e;
+  target = ap (λ g. g.target) e;
+  old_here = ap (λ g. g.old_here) e;
+  not_code = ap (λ g. g.not_code) e;
+  wrong_type = ap (λ g. g.wrong_type) e;
 }
 
 pub clean_whole : (f : Flaws) → AreAbsent f → IsClean f
 clean_whole f a = clean_of f.twice f.unknown f.missing f.no_main f.not_visible f.wrong_arity f.target f.old_here f.not_code f.wrong_type a.twice a.unknown a.missing a.no_main a.not_visible a.wrong_arity a.target a.old_here a.not_code a.wrong_type
 
 pub clean_both : (f g : Flaws) → IsClean (either f g) ↔ (IsClean f × IsClean g)
-clean_both f g =
-    (λ h.
-      let p = clean_parts (either f g) h in
-      (clean_whole f (record {
-        twice = (or_parts f.twice g.twice p.twice).0; unknown = (or_parts f.unknown g.unknown p.unknown).0; missing = (or_parts f.missing g.missing p.missing).0;
-        no_main = (or_parts f.no_main g.no_main p.no_main).0; not_visible = (or_parts f.not_visible g.not_visible p.not_visible).0; wrong_arity = (or_parts f.wrong_arity g.wrong_arity p.wrong_arity).0;
-        target = (or_parts f.target g.target p.target).0; old_here = (or_parts f.old_here g.old_here p.old_here).0; not_code = (or_parts f.not_code g.not_code p.not_code).0;
-        wrong_type = (or_parts f.wrong_type g.wrong_type p.wrong_type).0;
-      }), clean_whole g (record {
-        twice = (or_parts f.twice g.twice p.twice).1; unknown = (or_parts f.unknown g.unknown p.unknown).1; missing = (or_parts f.missing g.missing p.missing).1;
-        no_main = (or_parts f.no_main g.no_main p.no_main).1; not_visible = (or_parts f.not_visible g.not_visible p.not_visible).1; wrong_arity = (or_parts f.wrong_arity g.wrong_arity p.wrong_arity).1;
-        target = (or_parts f.target g.target p.target).1; old_here = (or_parts f.old_here g.old_here p.old_here).1; not_code = (or_parts f.not_code g.not_code p.not_code).1;
-        wrong_type = (or_parts f.wrong_type g.wrong_type p.wrong_type).1;
-      })),
-    λ h. ap (λ x. either x g) h.0 ∙ h.1)
+clean_both f g = (
+  λ h.
+      let p = clean_parts (either f g) h in (
+        clean_whole f (record {
+          twice = (or_parts f.twice g.twice p.twice).0;
+          unknown = (or_parts f.unknown g.unknown p.unknown).0;
+          missing = (or_parts f.missing g.missing p.missing).0;
+          no_main = (or_parts f.no_main g.no_main p.no_main).0;
+          not_visible = (or_parts f.not_visible g.not_visible p.not_visible).0;
+          wrong_arity = (or_parts f.wrong_arity g.wrong_arity p.wrong_arity).0;
+          target = (or_parts f.target g.target p.target).0;
+          old_here = (or_parts f.old_here g.old_here p.old_here).0;
+          not_code = (or_parts f.not_code g.not_code p.not_code).0;
+          wrong_type = (or_parts f.wrong_type g.wrong_type p.wrong_type).0;
+        }),
+        clean_whole g (record {
+          twice = (or_parts f.twice g.twice p.twice).1;
+          unknown = (or_parts f.unknown g.unknown p.unknown).1;
+          missing = (or_parts f.missing g.missing p.missing).1;
+          no_main = (or_parts f.no_main g.no_main p.no_main).1;
+          not_visible = (or_parts f.not_visible g.not_visible p.not_visible).1;
+          wrong_arity = (or_parts f.wrong_arity g.wrong_arity p.wrong_arity).1;
+          target = (or_parts f.target g.target p.target).1;
+          old_here = (or_parts f.old_here g.old_here p.old_here).1;
+          not_code = (or_parts f.not_code g.not_code p.not_code).1;
+          wrong_type = (or_parts f.wrong_type g.wrong_type p.wrong_type).1;
+        }),
+      ),
+  λ h. ap (λ x. either x g) h.0 ∙ h.1,
+)
 
 -- ---- faults
 
@@ -81,21 +103,23 @@ no_fault at false false false false false false false false false true x y = abs
 no_fault at false false false false false false false false false false x y = refl
 
 pub no_fault_at : (at : ℕ) (f : Flaws) → HasNoFault (λ pass. fault_at pass at f) ↔ IsClean f
-no_fault_at at f =
-    (λ h. no_fault at f.twice f.unknown f.missing f.no_main f.not_visible f.wrong_arity f.target f.old_here f.not_code f.wrong_type h.0 h.1,
-    λ h. (ap (λ g. fault_at ForTwice at g) h, ap (λ g. fault_at ForOthers at g) h))
+no_fault_at at f = (
+  λ h. no_fault at f.twice f.unknown f.missing f.no_main f.not_visible f.wrong_arity f.target f.old_here f.not_code f.wrong_type h.0 h.1,
+  λ h. (ap (λ g. fault_at ForTwice at g) h, ap (λ g. fault_at ForOthers at g) h),
+)
 
 pub first_none : (a b : Option Fault) → (first_of a b ≡ None) ↔ ((a ≡ None) × (b ≡ None))
 first_none None b = (λ h. (refl, h), λ h. h.1)
 first_none (Some f) b = (λ h. absurd cc, λ h. absurd cc)
 
 pub no_fault_in_both : (a b : Pass → Option Fault) → HasNoFault (λ pass. first_of (a pass) (b pass)) ↔ (HasNoFault a × HasNoFault b)
-no_fault_in_both a b =
-    (λ h.
+no_fault_in_both a b = (
+  λ h.
       let x = (first_none (a ForTwice) (b ForTwice)).0 h.0 in
       let y = (first_none (a ForOthers) (b ForOthers)).0 h.1 in
       ((x.0, y.0), (x.1, y.1)),
-    λ h. ((first_none (a ForTwice) (b ForTwice)).1 (h.0.0, h.1.0), (first_none (a ForOthers) (b ForOthers)).1 (h.0.1, h.1.1)))
+  λ h. ((first_none (a ForTwice) (b ForTwice)).1 (h.0.0, h.1.0), (first_none (a ForOthers) (b ForOthers)).1 (h.0.1, h.1.1)),
+)
 
 pub no_fault_in_list : {X : Type 0} (fault : Pass → X → Option Fault) (xs : List X) → HasNoFault (λ pass. first_in (fault pass) xs) ↔ AllByRecursion (λ x. HasNoFault (λ pass. fault pass x)) xs
 no_fault_in_list fault [] = (λ h. tt, λ h. (refl, refl))

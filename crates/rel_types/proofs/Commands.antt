@@ -1,16 +1,16 @@
 -- A block is typed exactly where it has no fault.
-use Rattle.std.proofs.Common.{◌≡◌, ◌≢◌, ℕ, suc, Bool, true, false, not, ◌&&◌, ◌||◌, ◌↔◌, if◌then◌else◌, List, [], ◌∷◌, length, Option, Some, None, IsTrue, IsSomeAnd, refl, sym, ap, subst, ◌∙◌}
+use Rattle.std.proofs.Common.{◌≡◌, ◌≢◌, ℕ, Bool, true, false, not, ◌↔◌, if◌then◌else◌, List, [], ◌∷◌, length, Option, Some, None, IsTrue, IsSomeAnd, refl, sym, ap, subst, ◌∙◌}
 use Rattle.std.specs.Prelude.{◌==◌, bytes_eq, is_some}
 use Rattle.std.proofs.Math.Dec.{eqb-suc-suc, eqb-suc-zero, eqb-zero-suc}
-use Rattle.std.proofs.lemmas.Bool.{or_parts, or_from, not-false, not_from_true}
+use Rattle.std.proofs.lemmas.Bool.{not-false, not_from_true}
 use Rattle.std.proofs.lemmas.Slice.Eq.{bytes_eq-Decides}
 use Rattle.rel_lang.specs.Syntax.{Word, Ty, Class, Expression, Formula, Command, At, Form, Skip, Assign, Load, Store, New, Call, If, While, Block, End, Then, Decl}
 use Rattle.rel_lang.specs.State.{Tables, ClassField, find_field, find_named, Scope, Variable, find_variable}
 use Rattle.rel_lang.specs.Lookup.{main_name}
-use Rattle.rel_lang.specs.Typed.{is_code, is_test, HasType, Signature, Names, IsCode, IsTest, IsTarget, RefersTo, AreArguments, IsTypedFormula, IsTypedCommand, IsTypedBlock}
-use Rattle.rel_types.specs.Flaws.{Flaws, flawless, either, Pass, fault_at, first_of}
-use Rattle.rel_types.specs.Inference.{same_type, Inferred, Exactly, fits, infer, is_class, flaws_of_formula, flaws_of_test, flaws_of_code, flaws_of_value}
-use Rattle.rel_types.specs.Code.{Code, find_callee, unknown_where, wrong_type_where, has_type, cannot_be_assigned, cannot_take, flaws_of_target, flaws_of_reference, flaws_of_arguments, flaws_of_load, flaws_of_store, flaws_of_call, flaws_of_form, inner_fault, command_fault, block_fault}
+use Rattle.rel_lang.specs.Typed.{is_code, is_test, HasType, Signature, Names, IsCode, IsTest, IsTarget, RefersTo, AreArguments, IsTypedCommand, IsTypedBlock}
+use Rattle.rel_types.specs.Flaws.{Flaws, flawless, either, fault_at}
+use Rattle.rel_types.specs.Inference.{same_type, Inferred, Exactly, fits, infer, is_class, flaws_of_formula, flaws_of_test, flaws_of_value}
+use Rattle.rel_types.specs.Code.{Code, find_callee, unknown_where, has_type, cannot_be_assigned, cannot_take, flaws_of_target, flaws_of_reference, flaws_of_arguments, flaws_of_load, flaws_of_store, flaws_of_call, flaws_of_form, inner_fault, command_fault, block_fault}
 use Rattle.rel_types.proofs.Equivalences.{iff_then, iff_back, iff_both}
 use Rattle.rel_types.proofs.Clean.{IsClean, clean_both, HasNoFault, no_fault_at, no_fault_in_both}
 use Rattle.rel_types.proofs.Expressions.{AreFine, among_law, type_law, expression_law}
@@ -28,9 +28,10 @@ names_in code = record { scope = code.scope; callees = callable code }
 -- ---- tests and values
 
 with_code : (f : Flaws) (b : Bool) → f.not_code ≡ false → (IsTrue b × IsClean f) ↔ IsClean (record f { not_code = not b })
-with_code f b none =
-    (λ h. ap (λ c. record f { not_code = not c }) h.0 ∙ ap (λ (g : Flaws). record g { not_code = false }) h.1,
-    λ h. (not-false b (ap (λ (g : Flaws). g.not_code) h), ap (λ (g : Flaws). record g { not_code = f.not_code }) h ∙ ap (λ c. record flawless { not_code = c }) none))
+with_code f b none = (
+  λ h. ap (λ c. record f { not_code = not c }) h.0 ∙ ap (λ (g : Flaws). record g { not_code = false }) h.1,
+  λ h. (not-false b (ap (λ (g : Flaws). g.not_code) h), ap (λ (g : Flaws). record g { not_code = f.not_code }) h ∙ ap (λ c. record flawless { not_code = c }) none),
+)
 
 pub test_law : (tables : Tables) (ns : Names) (p : Formula) → IsTest tables ns p ↔ IsClean (flaws_of_test tables ns.scope p)
 test_law tables ns p = iff_then (iff_both (λ b. b, λ b. b) (formula_law tables false ns.scope p)) (with_code (flaws_of_formula tables false ns.scope p) (is_test p) refl)
@@ -43,9 +44,10 @@ from_value : (u m k w : Bool) → u ≡ false → m ≡ false → k ≡ false �
 from_value u m k w eu em ek ew = rw (eu, em, ek, ew) refl
 
 value_law : {A : Type 0} (k u m f : Bool) → (A ↔ AreFine u m f) → (IsTrue k × A) ↔ IsClean (value_flaws u m (not k) (not f))
-value_law k u m f p =
-    (λ h. let x = p.0 h.1 in from_value u m (not k) (not f) x.0 x.1 (not_from_true k h.0) (not_from_true f x.2),
-    λ h. (not-false k (ap (λ x. x.not_code) h), p.1 (ap (λ x. x.unknown) h, ap (λ x. x.old_here) h, not-false f (ap (λ x. x.wrong_type) h))))
+value_law k u m f p = (
+  λ h. let x = p.0 h.1 in from_value u m (not k) (not f) x.0 x.1 (not_from_true k h.0) (not_from_true f x.2),
+  λ h. (not-false k (ap (λ x. x.not_code) h), p.1 (ap (λ x. x.unknown) h, ap (λ x. x.old_here) h, not-false f (ap (λ x. x.wrong_type) h))),
+)
 
 code_law : (tables : Tables) (ns : Names) (e : Expression) (t : Ty) → IsCode tables ns e t ↔ IsClean (flaws_of_value tables ns.scope e t)
 code_law tables ns e t = value_law (is_code e) _ _ _ (expression_law tables false ns.scope e t)
@@ -60,30 +62,35 @@ from_target v i a f = ap (λ b. record flawless { target = not b; wrong_type = n
 
 target_of : (o : Option Variable) (t : Ty) → IsSomeAnd o (λ v. IsTrue v.is_assignable × (v.ty ≡ t)) ↔ IsClean (target_flaws o (Exactly t))
 target_of None t = (λ h. absurd h, λ h. let e = ap (λ x. x.unknown) h in absurd cc)
-target_of (Some v) t =
-    (λ h. from_target v (Exactly t) h.0 ((type_law t v.ty).1 (sym h.1)),
-    λ h. (not-false v.is_assignable (ap (λ x. x.target) h), sym ((type_law t v.ty).0 (not-false (same_type t v.ty) (ap (λ x. x.wrong_type) h)))))
+target_of (Some v) t = (
+  λ h. from_target v (Exactly t) h.0 ((type_law t v.ty).1 (sym h.1)),
+  λ h. (not-false v.is_assignable (ap (λ x. x.target) h), sym ((type_law t v.ty).0 (not-false (same_type t v.ty) (ap (λ x. x.wrong_type) h)))),
+)
 
 assign_law : (o : Option Variable) (i : Inferred) (k u m : Bool) (A : Ty → Type 0) → ((t : Ty) → A t ↔ AreFine u m (fits i t))
     → ((t : Ty) × IsSomeAnd o (λ v. IsTrue v.is_assignable × (v.ty ≡ t)) × (IsTrue k × A t)) ↔ IsClean (either (target_flaws o i) (value_flaws u m (not k) false))
 assign_law None i k u m A p = (λ h. absurd h.1, λ h. let e = ap (λ x. x.unknown) h in absurd cc)
-assign_law (Some v) i k u m A p =
-    (λ h.
+assign_law (Some v) i k u m A p = (
+  λ h.
       let x = (p h.0).0 h.2.1 in
       (clean_both (target_flaws (Some v) i) (value_flaws u m (not k) false)).1 (
         from_target v i h.1.0 (subst (λ s. fits i s ≡ true) (sym h.1.1) x.2),
-        from_value u m (not k) false x.0 x.1 (not_from_true k h.2.0) refl
+        from_value u m (not k) false x.0 x.1 (not_from_true k h.2.0) refl,
       ),
-    λ h.
-      let c = (clean_both (target_flaws (Some v) i) (value_flaws u m (not k) false)).0 h in
-      (v.ty, (not-false v.is_assignable (ap (λ x. x.target) c.0), refl),
-      (not-false k (ap (λ x. x.not_code) c.1), (p v.ty).1 (ap (λ x. x.unknown) c.1, ap (λ x. x.old_here) c.1, not-false (fits i v.ty) (ap (λ x. x.wrong_type) c.0)))))
+  λ h.
+      let c = (clean_both (target_flaws (Some v) i) (value_flaws u m (not k) false)).0 h in (
+        v.ty,
+        (not-false v.is_assignable (ap (λ x. x.target) c.0), refl),
+        (not-false k (ap (λ x. x.not_code) c.1), (p v.ty).1 (ap (λ x. x.unknown) c.1, ap (λ x. x.old_here) c.1, not-false (fits i v.ty) (ap (λ x. x.wrong_type) c.0))),
+      ),
+)
 
 reference_of : (o : Option Variable) (t : Ty) → IsSomeAnd o (λ v. v.ty ≡ t) ↔ IsClean (record flawless { unknown = not (is_some o); wrong_type = not (has_type t o) })
 reference_of None t = (λ h. absurd h, λ h. let e = ap (λ x. x.unknown) h in absurd cc)
-reference_of (Some v) t =
-    (λ h. ap (λ b. record flawless { wrong_type = not b }) ((type_law v.ty t).1 h),
-    λ h. (type_law v.ty t).0 (not-false (same_type v.ty t) (ap (λ x. x.wrong_type) h)))
+reference_of (Some v) t = (
+  λ h. ap (λ b. record flawless { wrong_type = not b }) ((type_law v.ty t).1 h),
+  λ h. (type_law v.ty t).0 (not-false (same_type v.ty t) (ap (λ x. x.wrong_type) h)),
+)
 
 pub where_unknown : (k : Bool) → (k ≡ true) ↔ IsClean (unknown_where (not k))
 where_unknown k = (λ h. ap (λ b. unknown_where (not b)) h, λ h. not-false k (ap (λ x. x.unknown) h))
@@ -111,13 +118,14 @@ arguments_law tables ns (e ∷ es) (d ∷ ds) = joined (code_law tables ns e d.t
   where
     joined : {A B : Type 0} → (A ↔ IsClean (flaws_of_value tables ns.scope e d.ty)) → (B ↔ (((length es == length ds) ≡ true) × IsClean (flaws_of_arguments tables ns.scope es ds)))
         → (A × B) ↔ (((length (e ∷ es) == length (d ∷ ds)) ≡ true) × IsClean (flaws_of_arguments tables ns.scope (e ∷ es) (d ∷ ds)))
-    joined p q =
-        (λ h.
+    joined p q = (
+      λ h.
           let y = q.0 h.1 in
           (eqb-suc-suc (length es) (length ds) ∙ y.0, (clean_both (flaws_of_value tables ns.scope e d.ty) (flaws_of_arguments tables ns.scope es ds)).1 (p.0 h.0, y.1)),
-        λ h.
+      λ h.
           let c = (clean_both (flaws_of_value tables ns.scope e d.ty) (flaws_of_arguments tables ns.scope es ds)).0 h.1 in
-          (p.1 c.0, q.1 (sym (eqb-suc-suc (length es) (length ds)) ∙ h.0, c.1)))
+          (p.1 c.0, q.1 (sym (eqb-suc-suc (length es) (length ds)) ∙ h.0, c.1)),
+    )
 
 isnt_law : (x y : Word) → (x ≢ y) ↔ (bytes_eq x y ≡ false)
 isnt_law x y = (to (bytes_eq x y) refl, λ h e. let same = (bytes_eq-Decides x y).1 e in absurd cc)
@@ -143,17 +151,18 @@ call_law tables scope callees true x p es = meant (find_named (λ q. q.name) p c
         let first : Flaws = record flawless { not_visible = bytes_eq p main_name; wrong_arity = not (length es == length q.params) } in
         let target : Flaws = flaws_of_target scope x (Exactly q.result) in
         let rest : Flaws = flaws_of_arguments tables scope es q.params in
-        let args = arguments_law tables (record { scope = scope; callees = callees }) es q.params in
-        (λ h.
-          let a = args.0 h.1.0 in
-          (clean_both first (either target rest)).1 (
-            ap (λ b. record flawless { not_visible = b; wrong_arity = not (length es == length q.params) }) ((isnt_law p main_name).0 h.0) ∙ ap (λ b. record flawless { wrong_arity = not b }) a.0,
-            (clean_both target rest).1 ((target_of (find_variable x scope) q.result).0 h.1.1, a.1)
-          ),
-        λ h.
-          let c = (clean_both first (either target rest)).0 h in
-          let d = (clean_both target rest).0 c.1 in
-          ((isnt_law p main_name).1 (ap (λ x. x.not_visible) c.0), (args.1 (not-false (length es == length q.params) (ap (λ x. x.wrong_arity) c.0), d.1), (target_of (find_variable x scope) q.result).1 d.0)))
+        let args = arguments_law tables (record { scope = scope; callees = callees }) es q.params in (
+          λ h.
+              let a = args.0 h.1.0 in
+              (clean_both first (either target rest)).1 (
+                ap (λ b. record flawless { not_visible = b; wrong_arity = not (length es == length q.params) }) ((isnt_law p main_name).0 h.0) ∙ ap (λ b. record flawless { wrong_arity = not b }) a.0,
+                (clean_both target rest).1 ((target_of (find_variable x scope) q.result).0 h.1.1, a.1),
+              ),
+          λ h.
+              let c = (clean_both first (either target rest)).0 h in
+              let d = (clean_both target rest).0 c.1 in
+              ((isnt_law p main_name).1 (ap (λ x. x.not_visible) c.0), (args.1 (not-false (length es == length q.params) (ap (λ x. x.wrong_arity) c.0), d.1), (target_of (find_variable x scope) q.result).1 d.0)),
+        )
 
 -- ---- commands
 

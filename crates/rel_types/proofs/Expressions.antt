@@ -1,11 +1,11 @@
 -- An expression has a type exactly where it has no flaw and the type that is inferred fits.
 use Rattle.std.proofs.Common.{◌≡◌, ◌≢◌, Bool, true, false, not, ◌&&◌, ◌||◌, ◌↔◌, ◌⊎◌, inl, inr, ⊎_elim, List, [], ◌∷◌, Option, Some, None, IsTrue, IsSomeAnd, refl, sym, ap, subst}
 use Rattle.std.specs.Prelude.{bytes_eq, is_some}
-use Rattle.std.proofs.lemmas.Bool.{or_parts, or_from, and_parts, and_from, not-false, not_from_true, not-true, not_from_false}
+use Rattle.std.proofs.lemmas.Bool.{or_parts, or_from, and_parts, and_from, not-false, not_from_true}
 use Rattle.std.proofs.lemmas.Slice.Eq.{bytes_eq-Decides}
 use Rattle.rel_lang.specs.Syntax.{Word, Ty, Int, Rgn, Class, Expression, Var, Num, Null, Empty, Alloc, Add, Sub, Mul, Field, Single, Union, Meet, Minus, Image, Filter, Old}
 use Rattle.rel_lang.specs.State.{Tables, ClassField, find_field, Scope, Variable, find_variable}
-use Rattle.rel_lang.specs.Typed.{IsAmong, IsReferenceType, IsClass, HasType}
+use Rattle.rel_lang.specs.Typed.{IsAmong, IsReferenceType, HasType}
 use Rattle.rel_types.specs.Inference.{is_among, same_type, is_class_type, Inferred, NoType, AnyClass, Exactly, fits, is_reference, have_one_type, typed_where, type_of_variable, type_of_field, type_of_image, misplaces_old, is_class, has_unknown, infer}
 use Rattle.rel_types.proofs.Equivalences.{iff_back}
 
@@ -73,22 +73,24 @@ abbrev pub AreFine : Bool → Bool → Bool → Type 0
 AreFine unknown misplaced fitting = (unknown ≡ false) × (misplaced ≡ false) × (fitting ≡ true)
 
 one_law : {A : Type 0} (u m f : Bool) (r t : Ty) → (A ↔ AreFine u m f) → (A × (t ≡ r)) ↔ AreFine u m (fits (typed_where f r) t)
-one_law u m f r t p =
-    (λ h. let x = p.0 h.0 in (x.0, x.1, (where_law f r t).1 (x.2, h.1)),
-    λ h. let e = (where_law f r t).0 h.2 in (p.1 (h.0, h.1, e.0), e.1))
+one_law u m f r t p = (
+  λ h. let x = p.0 h.0 in (x.0, x.1, (where_law f r t).1 (x.2, h.1)),
+  λ h. let e = (where_law f r t).0 h.2 in (p.1 (h.0, h.1, e.0), e.1),
+)
 
 two_law : {A B : Type 0} (u v m n f g : Bool) (r t : Ty) → (A ↔ AreFine u m f) → (B ↔ AreFine v n g) → (A × B × (t ≡ r)) ↔ AreFine (u || v) (m || n) (fits (typed_where (f && g) r) t)
-two_law u v m n f g r t p q =
-    (λ h.
+two_law u v m n f g r t p q = (
+  λ h.
       let x = p.0 h.0 in
       let y = q.0 h.1 in
       (or_from u v x.0 y.0, or_from m n x.1 y.1, (where_law (f && g) r t).1 (and_from f g x.2 y.2, h.2)),
-    λ h.
+  λ h.
       let a = or_parts u v h.0 in
       let b = or_parts m n h.1 in
       let e = (where_law (f && g) r t).0 h.2 in
       let d = and_parts f g e.0 in
-      (p.1 (a.0, b.0, d.0), q.1 (a.1, b.1, d.1), e.1))
+      (p.1 (a.0, b.0, d.0), q.1 (a.1, b.1, d.1), e.1),
+)
 
 variable_law : (o : Option Variable) (t : Ty) → IsSomeAnd o (λ v. v.ty ≡ t) ↔ AreFine (not (is_some o)) false (fits (type_of_variable o) t)
 variable_law None t = (λ h. absurd h, λ h. absurd cc)
@@ -97,11 +99,12 @@ variable_law (Some v) t = (λ h. (refl, refl, (type_law v.ty t).1 h), λ h. (typ
 field_law : (A : Ty → Type 0) (o : Option ClassField) (u m : Bool) (i : Inferred) (t : Ty) → ((s : Ty) → A s ↔ AreFine u m (fits i s))
     → IsSomeAnd o (λ d. A (Class d.class) × (t ≡ d.ty)) ↔ AreFine (u || not (is_some o)) m (fits (type_of_field o i) t)
 field_law A None u m i t p = (λ h. absurd h, λ h. absurd cc)
-field_law A (Some d) u m i t p =
-    (λ h.
+field_law A (Some d) u m i t p = (
+  λ h.
       let x = (one_law u m (fits i (Class d.class)) d.ty t (p (Class d.class))).0 h in
       (or_from u false x.0 refl, x.1, x.2),
-    λ h. (one_law u m (fits i (Class d.class)) d.ty t (p (Class d.class))).1 ((or_parts u false h.0).0, h.1, h.2))
+  λ h. (one_law u m (fits i (Class d.class)) d.ty t (p (Class d.class))).1 ((or_parts u false h.0).0, h.1, h.2),
+)
 
 image_law : (A : Type 0) (o : Option ClassField) (u m : Bool) (i : Inferred) (t : Ty) → (A ↔ AreFine u m (fits i Rgn))
     → IsSomeAnd o (λ d. A × (d.ty ≢ Int) × (t ≡ Rgn)) ↔ AreFine (u || not (is_some o)) m (fits (type_of_image o i) t)
@@ -129,32 +132,35 @@ image_law A (Some d) u m i t p = (to, from)
 
 single_law : (A : Ty → Type 0) (u m : Bool) (i : Inferred) (t : Ty) → ((s : Ty) → A s ↔ AreFine u m (fits i s))
     → ((c : Word) × A (Class c) × (t ≡ Rgn)) ↔ AreFine u m (fits (typed_where (is_reference i) Rgn) t)
-single_law A u m i t p =
-    (λ h.
+single_law A u m i t p = (
+  λ h.
       let x = (p (Class h.0)).0 h.1 in
       (x.0, x.1, (where_law (is_reference i) Rgn t).1 ((reference_law i).0 (h.0, x.2), h.2)),
-    λ h.
+  λ h.
       let e = (where_law (is_reference i) Rgn t).0 h.2 in
       let c = (reference_law i).1 e.0 in
-      (c.0, (p (Class c.0)).1 (h.0, h.1, c.1), e.1))
+      (c.0, (p (Class c.0)).1 (h.0, h.1, c.1), e.1),
+)
 
 filter_law : {A C : Type 0} (u k m f : Bool) (t : Ty) → (A ↔ AreFine u m f) → (C ↔ (k ≡ true)) → (A × C × (t ≡ Rgn)) ↔ AreFine (u || not k) m (fits (typed_where f Rgn) t)
-filter_law u k m f t p q =
-    (λ h.
+filter_law u k m f t p q = (
+  λ h.
       let x = p.0 h.0 in
       (or_from u (not k) x.0 (not_from_true k (q.0 h.1)), x.1, (where_law f Rgn t).1 (x.2, h.2)),
-    λ h.
+  λ h.
       let a = or_parts u (not k) h.0 in
       let e = (where_law f Rgn t).0 h.2 in
-      (p.1 (a.0, h.1, e.0), q.1 (not-false k a.1), e.1))
+      (p.1 (a.0, h.1, e.0), q.1 (not-false k a.1), e.1),
+)
 
 plain_law : (r t : Ty) → (t ≡ r) ↔ AreFine false false (same_type r t)
 plain_law r t = (λ h. (refl, refl, (type_law r t).1 (sym h)), λ h. sym ((type_law r t).0 h.2))
 
 old_law : {A : Type 0} (old u m f : Bool) → (A ↔ AreFine u m f) → (IsTrue old × A) ↔ AreFine u (not old || m) f
-old_law old u m f p =
-    (λ h. let x = p.0 h.1 in (x.0, or_from (not old) m (not_from_true old h.0) x.1, x.2),
-    λ h. let a = or_parts (not old) m h.1 in (not-false old a.0, p.1 (h.0, a.1, h.2)))
+old_law old u m f p = (
+  λ h. let x = p.0 h.1 in (x.0, or_from (not old) m (not_from_true old h.0) x.1, x.2),
+  λ h. let a = or_parts (not old) m h.1 in (not-false old a.0, p.1 (h.0, a.1, h.2)),
+)
 
 pub expression_law : (tables : Tables) (old : Bool) (sc : Scope) (e : Expression) (t : Ty)
     → HasType tables old sc e t ↔ ((has_unknown tables sc e ≡ false) × (misplaces_old old e ≡ false) × (fits (infer tables sc e) t ≡ true))

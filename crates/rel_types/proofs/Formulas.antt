@@ -17,57 +17,61 @@ abbrev pub four : Bool → Bool → Bool → Bool → Flaws
 four twice unknown misplaced ill = record flawless { twice = twice; unknown = unknown; old_here = misplaced; wrong_type = ill }
 
 pub four_law : (twice unknown misplaced ill : Bool) → IsClean (four twice unknown misplaced ill) ↔ ((twice ≡ false) × (unknown ≡ false) × (misplaced ≡ false) × (ill ≡ false))
-four_law twice unknown misplaced ill =
-    (λ h. (ap (λ f. f.twice) h, ap (λ f. f.unknown) h, ap (λ f. f.old_here) h, ap (λ f. f.wrong_type) h),
-    λ h. rw (h.0, h.1, h.2, h.3) refl)
+four_law twice unknown misplaced ill = (
+  λ h. (ap (λ f. f.twice) h, ap (λ f. f.unknown) h, ap (λ f. f.old_here) h, ap (λ f. f.wrong_type) h),
+  λ h. rw (h.0, h.1, h.2, h.3) refl,
+)
 
 -- ---- comparisons
 
 -- two that each have one of two types
 pub pair_law : {A B : Type 0} (u v m n f g : Bool) → (A ↔ AreFine u m f) → (B ↔ AreFine v n g) → (A × B) ↔ IsClean (four false (u || v) (m || n) (not (f && g)))
 pair_law u v m n f g p q =
-    iff_then
-    (λ h.
-      let x = p.0 h.0 in
-      let y = q.0 h.1 in
-      (refl, or_from u v x.0 y.0, or_from m n x.1 y.1, not_from_true (f && g) (and_from f g x.2 y.2)),
-    λ (h : (false ≡ false) × ((u || v) ≡ false) × ((m || n) ≡ false) × (not (f && g) ≡ false)).
-      let a = or_parts u v h.1 in
-      let b = or_parts m n h.2 in
-      let d = and_parts f g (not-false (f && g) h.3) in
-      (p.1 (a.0, b.0, d.0), q.1 (a.1, b.1, d.1)))
+    iff_then (
+      λ h.
+          let x = p.0 h.0 in
+          let y = q.0 h.1 in
+          (refl, or_from u v x.0 y.0, or_from m n x.1 y.1, not_from_true (f && g) (and_from f g x.2 y.2)),
+      λ (h : (false ≡ false) × ((u || v) ≡ false) × ((m || n) ≡ false) × (not (f && g) ≡ false)).
+          let a = or_parts u v h.1 in
+          let b = or_parts m n h.2 in
+          let d = and_parts f g (not-false (f && g) h.3) in
+          (p.1 (a.0, b.0, d.0), q.1 (a.1, b.1, d.1)),
+    )
     (iff_back (four_law false (u || v) (m || n) (not (f && g))))
 
 -- two that have one type in common
 pub equal_law : (A B : Ty → Type 0) (u v m n : Bool) (i j : Inferred) → ((t : Ty) → A t ↔ AreFine u m (fits i t)) → ((t : Ty) → B t ↔ AreFine v n (fits j t))
     → ((t : Ty) × A t × B t) ↔ IsClean (four false (u || v) (m || n) (not (have_one_type i j)))
 equal_law A B u v m n i j p q =
-    iff_then
-    (λ h.
-      let x = (p h.0).0 h.1 in
-      let y = (q h.0).0 h.2 in
-      (refl, or_from u v x.0 y.0, or_from m n x.1 y.1, not_from_true (have_one_type i j) ((one_type_law i j).0 (h.0, x.2, y.2))),
-    λ (h : (false ≡ false) × ((u || v) ≡ false) × ((m || n) ≡ false) × (not (have_one_type i j) ≡ false)).
-      let a = or_parts u v h.1 in
-      let b = or_parts m n h.2 in
-      let t = (one_type_law i j).1 (not-false (have_one_type i j) h.3) in
-      (t.0, (p t.0).1 (a.0, b.0, t.1), (q t.0).1 (a.1, b.1, t.2)))
+    iff_then (
+      λ h.
+          let x = (p h.0).0 h.1 in
+          let y = (q h.0).0 h.2 in
+          (refl, or_from u v x.0 y.0, or_from m n x.1 y.1, not_from_true (have_one_type i j) ((one_type_law i j).0 (h.0, x.2, y.2))),
+      λ (h : (false ≡ false) × ((u || v) ≡ false) × ((m || n) ≡ false) × (not (have_one_type i j) ≡ false)).
+          let a = or_parts u v h.1 in
+          let b = or_parts m n h.2 in
+          let t = (one_type_law i j).1 (not-false (have_one_type i j) h.3) in
+          (t.0, (p t.0).1 (a.0, b.0, t.1), (q t.0).1 (a.1, b.1, t.2)),
+    )
     (iff_back (four_law false (u || v) (m || n) (not (have_one_type i j))))
 
 member_law : (A : Ty → Type 0) {B : Type 0} (u v m n g : Bool) (i : Inferred) → ((t : Ty) → A t ↔ AreFine u m (fits i t)) → (B ↔ AreFine v n g)
     → ((c : Word) × A (Class c) × B) ↔ IsClean (four false (u || v) (m || n) (not (is_reference i && g)))
 member_law A u v m n g i p q =
-    iff_then
-    (λ h.
-      let x = (p (Class h.0)).0 h.1 in
-      let y = q.0 h.2 in
-      (refl, or_from u v x.0 y.0, or_from m n x.1 y.1, not_from_true (is_reference i && g) (and_from (is_reference i) g ((reference_law i).0 (h.0, x.2)) y.2)),
-    λ (h : (false ≡ false) × ((u || v) ≡ false) × ((m || n) ≡ false) × (not (is_reference i && g) ≡ false)).
-      let a = or_parts u v h.1 in
-      let b = or_parts m n h.2 in
-      let d = and_parts (is_reference i) g (not-false (is_reference i && g) h.3) in
-      let c = (reference_law i).1 d.0 in
-      (c.0, (p (Class c.0)).1 (a.0, b.0, c.1), q.1 (a.1, b.1, d.1)))
+    iff_then (
+      λ h.
+          let x = (p (Class h.0)).0 h.1 in
+          let y = q.0 h.2 in
+          (refl, or_from u v x.0 y.0, or_from m n x.1 y.1, not_from_true (is_reference i && g) (and_from (is_reference i) g ((reference_law i).0 (h.0, x.2)) y.2)),
+      λ (h : (false ≡ false) × ((u || v) ≡ false) × ((m || n) ≡ false) × (not (is_reference i && g) ≡ false)).
+          let a = or_parts u v h.1 in
+          let b = or_parts m n h.2 in
+          let d = and_parts (is_reference i) g (not-false (is_reference i && g) h.3) in
+          let c = (reference_law i).1 d.0 in
+          (c.0, (p (Class c.0)).1 (a.0, b.0, c.1), q.1 (a.1, b.1, d.1)),
+    )
     (iff_back (four_law false (u || v) (m || n) (not (is_reference i && g))))
 
 -- ---- quantifiers
@@ -76,18 +80,19 @@ member_law A u v m n g i p q =
 pub quantifier_law : {C A B : Type 0} (s k u m f bt bu bm bi : Bool) → (C ↔ (k ≡ true)) → (A ↔ AreFine u m f) → (B ↔ IsClean (four bt bu bm bi))
     → (((s ≡ false) × C) × A × B) ↔ IsClean (four (s || bt) (not k || u || bu) (m || bm) (not f || bi))
 quantifier_law s k u m f bt bu bm bi c p q =
-    iff_then
-    (λ h.
-      let x = p.0 h.1 in
-      let y = (four_law bt bu bm bi).0 (q.0 h.2) in
-      (or_from s bt h.0.0 y.0, or_from (not k || u) bu (or_from (not k) u (not_from_true k (c.0 h.0.1)) x.0) y.1, or_from m bm x.1 y.2, or_from (not f) bi (not_from_true f x.2) y.3),
-    λ (h : ((s || bt) ≡ false) × ((not k || u || bu) ≡ false) × ((m || bm) ≡ false) × ((not f || bi) ≡ false)).
-      let a = or_parts s bt h.0 in
-      let b = or_parts (not k || u) bu h.1 in
-      let d = or_parts (not k) u b.0 in
-      let e = or_parts m bm h.2 in
-      let g = or_parts (not f) bi h.3 in
-      ((a.0, c.1 (not-false k d.0)), p.1 (d.1, e.0, not-false f g.0), q.1 ((four_law bt bu bm bi).1 (a.1, b.1, e.1, g.1))))
+    iff_then (
+      λ h.
+          let x = p.0 h.1 in
+          let y = (four_law bt bu bm bi).0 (q.0 h.2) in
+          (or_from s bt h.0.0 y.0, or_from (not k || u) bu (or_from (not k) u (not_from_true k (c.0 h.0.1)) x.0) y.1, or_from m bm x.1 y.2, or_from (not f) bi (not_from_true f x.2) y.3),
+      λ (h : ((s || bt) ≡ false) × ((not k || u || bu) ≡ false) × ((m || bm) ≡ false) × ((not f || bi) ≡ false)).
+          let a = or_parts s bt h.0 in
+          let b = or_parts (not k || u) bu h.1 in
+          let d = or_parts (not k) u b.0 in
+          let e = or_parts m bm h.2 in
+          let g = or_parts (not f) bi h.3 in
+          ((a.0, c.1 (not-false k d.0)), p.1 (d.1, e.0, not-false f g.0), q.1 ((four_law bt bu bm bi).1 (a.1, b.1, e.1, g.1))),
+    )
     (iff_back (four_law (s || bt) (not k || u || bu) (m || bm) (not f || bi)))
 
 -- ---- formulas
