@@ -15,7 +15,6 @@ use Rattle.rel_types.specs.Laws.{TypedHaveNoFault}
 use Rattle.rel_types.proofs.Clean.{IsClean, HasNoFault, or_false, first_none, no_fault_in_both, clean_both}
 use Rattle.rel_types.proofs.Names.{AreApart, apart_from_nothing, apart_cons, apart_append, apart_of_append, among_is_false, same_from_true, distinct_append, repeats_is_false}
 use Rattle.rel_types.proofs.Equivalences.{iff_same, iff_back, iff_then, iff_both, iff_all, map_append, map_map, some_weaker}
-use Rattle.rel_types.proofs.Below.{Below}
 use Rattle.rel_types.proofs.Procedures.{at_first}
 use Rattle.rel_types.proofs.Units.{twice_clean, class_law, interface_law, unit_law}
 use Rattle.rel_types.proofs.Modules.{module_law}
@@ -137,7 +136,7 @@ module _ (b : Bundle) where
       → HasNoFault (λ pass. pair_fault b pass more l r o p) ↔ (IsClean more × HasNoFault (λ pass. pair_fault b pass flawless l r o p))
   split_pair more l r o p = split_more p.at more (pair_flaws l r o p) (pair_rest l r o p)
 
-module _ (below : Below) (b : Bundle) where
+module _ (b : Bundle) where
   no_fields : (seen : List Word) (x : Word) (P : Type 0) → (IsClean (twice_where (is_among x seen)) × P) ↔ ((is_among x seen ≡ false) × ((false ≡ false) × P))
   no_fields seen x P = iff_both (twice_clean (is_among x seen)) (λ h. (refl, h), λ h. h.1)
 
@@ -145,12 +144,12 @@ module _ (below : Below) (b : Bundle) where
       ↔ ((is_among (item_name i) seen ≡ false) × ((repeats fields (own_fields i) ≡ false) × IsFine b i))
   item_law seen fields (OfClass c) =
       iff_then (class_law (tables_of b) fields (twice_where (is_among c.name seen)) c) (iff_both (twice_clean (is_among c.name seen)) iff_same)
-  item_law seen fields (OfInterface i) = iff_then (interface_law (tables_of b) below (twice_where (is_among i.name seen)) i) (no_fields seen i.name (IsFine b (OfInterface i)))
+  item_law seen fields (OfInterface i) = iff_then (interface_law (tables_of b) (twice_where (is_among i.name seen)) i) (no_fields seen i.name (IsFine b (OfInterface i)))
   item_law seen fields (OfModule m) = iff_then (split_module b (twice_where (is_among m.name seen)) (find_interface b m.interface) m) (no_fields seen m.name (IsFine b (OfModule m)))
-  item_law seen fields (OfUnit u) = iff_then (unit_law (tables_of b) below (twice_where (is_among u.name seen)) u) (no_fields seen u.name (IsFine b (OfUnit u)))
+  item_law seen fields (OfUnit u) = iff_then (unit_law (tables_of b) (twice_where (is_among u.name seen)) u) (no_fields seen u.name (IsFine b (OfUnit u)))
   item_law seen fields (OfClient c) = iff_then (split_client b (twice_where (is_among c.name seen)) (find_interface b c.interface) c) (no_fields seen c.name (IsFine b (OfClient c)))
   item_law seen fields (OfJudgement j) =
-      iff_then (judgement_law b below (twice_where (is_among j.name seen)) (subject_of b j.left) (subject_of b j.right) j) (no_fields seen j.name (IsFine b (OfJudgement j)))
+      iff_then (judgement_law b (twice_where (is_among j.name seen)) (subject_of b j.left) (subject_of b j.right) j) (no_fields seen j.name (IsFine b (OfJudgement j)))
   item_law seen fields (OfPair p) = 
       iff_then (split_pair b (twice_where (is_among p.name seen)) (find_module b p.left) (find_module b p.right) (interface_of_module b (find_module b p.left)) p) (no_fields seen p.name (IsFine b (OfPair p)))
 
@@ -195,13 +194,13 @@ module _ (below : Below) (b : Bundle) where
       → HasNoFault (λ pass. module_fault (tables_of b) pass flawless o m) ↔ IsSomeAnd o (λ i. IsTypedModule (tables_of b) i m)
   module_item m None typed =
       (λ h. absurd (true≢false ((or_false (have_unknown_types (tables_of b) m.globals) true).0 (ap (λ f. f.unknown) ((at_first m.at (module_flaws b None m) (module_rest b None m)).0 h).0)).1), λ t. absurd t)
-  module_item m (Some i) typed = let law = module_law (tables_of b) below flawless i m typed.0 typed.1 in (λ h. (law.0 h).1, λ t. law.1 (refl, t))
+  module_item m (Some i) typed = let law = module_law (tables_of b) flawless i m typed.0 typed.1 in (λ h. (law.0 h).1, λ t. law.1 (refl, t))
 
   client_item : (c : Client) (o : Option Interface) → GivesTyped c.interface o
       → HasNoFault (λ pass. client_fault (tables_of b) pass flawless o c) ↔ IsSomeAnd o (λ i. IsTypedClient (tables_of b) i c)
   client_item c None typed =
       (λ h. absurd (true≢false ((or_false (have_unknown_types (tables_of b) c.globals) true).0 (ap (λ f. f.unknown) ((at_first c.at (client_flaws b None c) (client_rest b None c)).0 h).0)).1), λ t. absurd t)
-  client_item c (Some i) typed = let law = client_law (tables_of b) below flawless i c typed.0 typed.1 in (λ h. (law.0 h).1, λ t. law.1 (refl, t))
+  client_item c (Some i) typed = let law = client_law (tables_of b) flawless i c typed.0 typed.1 in (λ h. (law.0 h).1, λ t. law.1 (refl, t))
 
   -- a module that is found is typed in its interface
   abbrev IsTypedHere : Module → Type 0
@@ -214,7 +213,7 @@ module _ (below : Below) (b : Bundle) where
       → IsSomeAnd o (λ i. IsTypedModule (tables_of b) i m) → (m.interface ≡ n.interface → IsSomeAnd o (λ i. IsTypedModule (tables_of b) i n))
       → HasNoFault (λ pass. pair_fault b pass flawless (Some m) (Some n) o p) ↔ IsSomeAnd o (λ i. IsTypedPair b p i m n)
   pair_of_modules p m n None typed left right = absurd left
-  pair_of_modules p m n (Some i) typed left right = let law = pair_law b below i m n flawless p typed.0 left right in (λ h. (law.0 h).1, λ t. law.1 (refl, t))
+  pair_of_modules p m n (Some i) typed left right = let law = pair_law b i m n flawless p typed.0 left right in (λ h. (law.0 h).1, λ t. law.1 (refl, t))
 
   pair_item : (interfaces : (x : Word) → GivesTyped x (find_interface b x)) (p : ModulePair) (l r : Option Module)
       → IfSome l IsTypedHere → IfSome r IsTypedHere
@@ -256,11 +255,11 @@ module _ (below : Below) (b : Bundle) where
     λ h. (iff_all (IsFine b) (IsTypedItem b) (typed_law (interfaces_typed (IsTypedItem b) (λ i t. t) h) (modules_typed (IsTypedItem b) (λ m t. t) h)) b.items).1 h,
   )
 
-pub bundle_law : Below → TypedHaveNoFault
-bundle_law below b =
-    let items = items_law below b [] [] b.items in
+pub bundle_law : TypedHaveNoFault
+bundle_law b =
+    let items = items_law b [] [] b.items in
     let passes = first_none (items_fault b ForTwice [] [] b.items) (items_fault b ForOthers [] [] b.items) in
-    let typed = all_typed below b in
+    let typed = all_typed b in
     (
       λ t. passes.1 (items.1 (
         (t.names, apart_from_nothing (map item_name b.items)),

@@ -13,7 +13,6 @@ use Rattle.rel_types.specs.Items.{declared_names, first_named, flaws_of_globals,
 use Rattle.rel_types.proofs.Clean.{IsClean, HasNoFault, or_false, clean_both}
 use Rattle.rel_types.proofs.Names.{AreApart, apart_from_nothing, apart_turned, apart_is_false, among_is_false, same_from_true, true_from_same, distinct_append}
 use Rattle.rel_types.proofs.Equivalences.{iff_same, iff_back, iff_then, iff_both, iff_all, all_both, all_mapped, map_append, map_map}
-use Rattle.rel_types.proofs.Below.{Below}
 use Rattle.rel_types.proofs.Procedures.{at_first, names_append, names_declared, proc_law}
 use Rattle.rel_types.proofs.Units.{named_law, globals_law}
 
@@ -87,12 +86,12 @@ abbrev IsRight : Tables → Interface → Client → Proc → Type 0
 IsRight tables i c q =
     (¬ (IsAmong q.name (map (λ (m : Sig). m.name) i.methods)) × HasNoParameters main_name q) × IsTypedProc tables (client_setting i c q) (client_callees tables i c) q
 
-module _ (tables : Tables) (below : Below) where
+module _ (tables : Tables) where
   client_proc_law : (i : Interface) (c : Client) → AreDistinct (result_name ∷ names_of (interface_globals i ++ client_globals c)) → (seen : List Word) (q : Proc)
       → HasNoFault (λ pass. proc_fault tables pass (setting_in_client (Some i) c q) (callees_in_client (Some i) c) (flaws_of_client_proc (Some i) seen q) q)
       ↔ ((is_among q.name seen ≡ false) × IsRight tables i c q)
   client_proc_law i c premise seen q =
-      let proc = proc_law tables below (interface_globals i) (client_globals c) (client_callees tables i c) (flaws_of_client_proc (Some i) seen q) q premise in
+      let proc = proc_law tables (interface_globals i) (client_globals c) (client_callees tables i c) (flaws_of_client_proc (Some i) seen q) q premise in
       let flaws = twice_main_clean (is_among q.name seen || is_among q.name (map (λ (m : Sig). m.name) i.methods)) (bytes_eq q.name main_name && not (is_empty q.params)) in
       let twice = or_false (is_among q.name seen) (is_among q.name (map (λ (m : Sig). m.name) i.methods)) in
       let method = among_is_false q.name (map (λ (m : Sig). m.name) i.methods) in

@@ -14,12 +14,12 @@ use Rattle.rel_types.specs.Items.{rel_clause_fault, setting_in_module, code_of_s
 use Rattle.rel_types.proofs.Clean.{IsClean, HasNoFault, or_false, no_fault_in_both, no_fault_in_list, clean_both}
 use Rattle.rel_types.proofs.Names.{not_is_false, same_names_are_same, same_from_true, true_from_same}
 use Rattle.rel_types.proofs.Equivalences.{iff_same, iff_back, iff_then, iff_both, all_weaker, some_weaker}
-use Rattle.rel_types.proofs.Below.{Below}
+use Rattle.rel_types.proofs.AlignmentsTyped.{align_law}
 use Rattle.rel_types.proofs.Procedures.{at_first, unknown_clean, rel_clause_law}
 use Rattle.rel_types.proofs.Modules.{unknown_missing_clean}
 use Rattle.rel_types.proofs.Matches.{matched}
 
-module _ (b : Bundle) (below : Below) where
+module _ (b : Bundle) where
   -- ---- judgements
 
   abbrev sides_of : Option Subject → Option Subject → Judgement → Sides
@@ -48,9 +48,9 @@ module _ (b : Bundle) (below : Below) where
   judgement_law more (Some x) None j = (λ h. absurd (true≢false ((judgement_parts more (Some x) None j).0 h).0.1), λ h. absurd h.1)
   judgement_law more (Some x) (Some y) j =
       let parts = judgement_parts more (Some x) (Some y) j in
-      let needs = rel_clause_law (tables_of b) below false (pre_scope (unit_setting x.unit x.proc)) (pre_scope (unit_setting y.unit y.proc)) j.needs in
-      let gives = rel_clause_law (tables_of b) below true (post_scope (unit_setting x.unit x.proc)) (post_scope (unit_setting y.unit y.proc)) j.gives in
-      let align = below.align_law (tables_of b) (sides_of (Some x) (Some y) j) j.align in
+      let needs = rel_clause_law (tables_of b) false (pre_scope (unit_setting x.unit x.proc)) (pre_scope (unit_setting y.unit y.proc)) j.needs in
+      let gives = rel_clause_law (tables_of b) true (post_scope (unit_setting x.unit x.proc)) (post_scope (unit_setting y.unit y.proc)) j.gives in
+      let align = align_law (tables_of b) (sides_of (Some x) (Some y) j) j.align in
       (
         λ h. let p = parts.0 h in (p.0.0, record { needs = needs.1 p.1.0; gives = gives.1 p.1.1.0; align = align.1 p.1.1.1 }),
         λ h. let t = h.1 in parts.1 ((h.0, refl), (needs.0 t.needs, (gives.0 t.gives, align.0 t.align))),
@@ -75,7 +75,7 @@ module _ (b : Bundle) (below : Below) where
         ↔ HasNoFault (λ pass. align_fault (tables_of b) pass (method_sides pass d e (Some q)) a)
     bodies_law q a None e h k = absurd h
     bodies_law q a (Some x) None h k = absurd k
-    bodies_law q a (Some x) (Some y) h k = below.align_law (tables_of b) (method_sides ForTwice (Some x) (Some y) (Some q)) a
+    bodies_law q a (Some x) (Some y) h k = align_law (tables_of b) (method_sides ForTwice (Some x) (Some y) (Some q)) a
 
     abbrev HasBodies : Sig → Type 0
     HasBodies q = IsHere (find_body q.name m.methods) × IsHere (find_body q.name n.methods)
@@ -122,8 +122,8 @@ module _ (b : Bundle) (below : Below) where
         let listed = same_names_are_same (map (λ a. a.1) p.methods) (map (λ q. q.name) i.methods) in
         let rest = no_fault_in_both coupling_fault (λ pass. first_of (init_fault pass) (method_faults pass)) in
         let aligns = no_fault_in_both init_fault method_faults in
-        let coupling = rel_clause_law (tables_of b) below false (globals_of (init_setting i m)) (globals_of (init_setting i n)) p.coupling in
-        let init = below.align_law (tables_of b) (module_sides b ForTwice (init_of_side (Some i) (Some m)) (init_of_side (Some i) (Some n))) p.init.1 in
+        let coupling = rel_clause_law (tables_of b) false (globals_of (init_setting i m)) (globals_of (init_setting i n)) p.coupling in
+        let init = align_law (tables_of b) (module_sides b ForTwice (init_of_side (Some i) (Some m)) (init_of_side (Some i) (Some n))) p.init.1 in
         (
           λ h.
             let x = place.0 h in

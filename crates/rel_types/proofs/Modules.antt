@@ -14,7 +14,7 @@ use Rattle.rel_types.specs.Items.{repeats, declared_names, seen_by_members, flaw
 use Rattle.rel_types.proofs.Clean.{IsClean, HasNoFault, no_fault_in_both, no_fault_in_list, clean_both}
 use Rattle.rel_types.proofs.Names.{same_names_are_same, distinct_append, repeats_is_false}
 use Rattle.rel_types.proofs.Equivalences.{iff_same, iff_back, iff_then, iff_both, iff_along, all_everywhere, append_nothing}
-use Rattle.rel_types.proofs.Below.{Below}
+use Rattle.rel_types.proofs.Commands.{block_law}
 use Rattle.rel_types.proofs.Procedures.{at_first, twice_unknown_clean, names_append, names_declared, body_names, body_with_result, types_law, clause_law}
 use Rattle.rel_types.proofs.Units.{behind, globals_law}
 use Rattle.rel_types.proofs.Matches.{matched}
@@ -32,7 +32,7 @@ names_without_result g none =
 pub module_names : (i : Interface) (m : Module) → names_of (interface_globals i ++ module_globals m) ≡ names_of (interface_globals i) ++ declared_names m.globals
 module_names i m = names_append (interface_globals i) (module_globals m) ∙ ap (λ ns. names_of (interface_globals i) ++ ns) (names_declared (ByModule m.name) true m.globals)
 
-module _ (tables : Tables) (below : Below) where
+module _ (tables : Tables) where
   body_law : (g : Setting) (callees : List Signature) (b : Body) → HasNoFault (λ pass. module_body_fault tables pass g callees b)
       ↔ (((repeats (seen_by_members (globals_of g)) (declared_names (g.parameters ++ g.locals)) ≡ false) × HaveTypes tables g.locals)
       × IsTypedBlock tables (record { scope = body_scope g; callees = [] }) b.commands)
@@ -40,7 +40,7 @@ module _ (tables : Tables) (below : Below) where
       iff_then (at_first b.at (record flawless { twice = repeats (seen_by_members (globals_of g)) (declared_names (g.parameters ++ g.locals)); unknown = have_unknown_types tables g.locals })
           (λ pass. block_fault tables pass (record { scope = body_scope g; callees = callees; may_call = false }) b.commands))
       (iff_both (iff_then (twice_unknown_clean (repeats (seen_by_members (globals_of g)) (declared_names (g.parameters ++ g.locals))) (have_unknown_types tables g.locals)) (iff_both iff_same (iff_back (types_law tables g.locals))))
-      (iff_back (below.block_law tables (record { scope = body_scope g; callees = callees; may_call = false }) b.commands)))
+      (iff_back (block_law tables (record { scope = body_scope g; callees = callees; may_call = false }) b.commands)))
 
   -- a body with a result
   method_body_law : (g : Setting) (t : Ty) → g.result ≡ Some t → AreDistinct (result_name ∷ names_of (globals_of g)) → (callees : List Signature) (b : Body)
@@ -83,7 +83,7 @@ module _ (tables : Tables) (below : Below) where
       let globals = globals_law tables (interface_globals i) m.globals typed.names in
       let missing = unknown_missing_clean (is_none (Some i)) (misses_methods (Some i) (map (λ b. b.0) m.methods)) in
       let listed = same_names_are_same (map (λ b. b.0) m.methods) (map (λ q. q.name) i.methods) in
-      let invariant = clause_law tables below false (globals_of g) m.invariant in
+      let invariant = clause_law tables false (globals_of g) m.invariant in
       let body = body_law g sigs m.init in
       let sees = module_names i m in
       let seen = behind (result_name ∷ names_of (globals_of g)) (declared_names m.init.locals) in

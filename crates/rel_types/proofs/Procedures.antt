@@ -12,7 +12,9 @@ use Rattle.rel_types.specs.Items.{repeats, declared_names, seen_by_members, flaw
 use Rattle.rel_types.proofs.Clean.{IsClean, HasNoFault, or_false, no_fault_in_both, no_fault_at, clean_both}
 use Rattle.rel_types.proofs.Names.{AreApart, among_is_true, not_is_false, repeats_is_false, distinct_append, apart_cons, apart_of_append}
 use Rattle.rel_types.proofs.Equivalences.{iff_same, iff_back, iff_then, iff_both, iff_all, all_of_append, map_append, map_map, some_is_tested}
-use Rattle.rel_types.proofs.Below.{Below}
+use Rattle.rel_types.proofs.Formulas.{formula_law, region_law}
+use Rattle.rel_types.proofs.Relations.{rel_law}
+use Rattle.rel_types.proofs.Commands.{block_law}
 
 -- ---- faults at a place that come before others
 
@@ -93,102 +95,101 @@ module _ (tables : Tables) where
   types_append : (ds es : List Decl) → (HaveTypes tables ds × HaveTypes tables es) ↔ (have_unknown_types tables (ds ++ es) ≡ false)
   types_append ds es = iff_then (iff_back (all_of_append (λ d. IsDeclaredType tables d.ty) ds es)) (types_law (ds ++ es))
 
-  module _ (below : Below) where
-    -- ---- effects
+  -- ---- effects
 
-    pub place_law : (sc : Scope) (p : Place) → IsTypedPlace tables sc p ↔ IsClean (flaws_of_place tables sc p)
-    place_law sc p =
-        let field = iff_then (some_is_tested (find_field tables p.field)) (iff_back (unknown_clean (not (is_field tables p.field)))) in
-        let region = below.region_law tables sc p.region in
-        let both = clean_both (unknown_where (not (is_field tables p.field))) (flaws_of_region tables sc p.region) in
-        (λ h. both.1 (field.0 h.1, region.0 h.0), λ c. let b = both.0 c in (region.1 b.1, field.1 b.0))
+  pub place_law : (sc : Scope) (p : Place) → IsTypedPlace tables sc p ↔ IsClean (flaws_of_place tables sc p)
+  place_law sc p =
+      let field = iff_then (some_is_tested (find_field tables p.field)) (iff_back (unknown_clean (not (is_field tables p.field)))) in
+      let region = region_law tables sc p.region in
+      let both = clean_both (unknown_where (not (is_field tables p.field))) (flaws_of_region tables sc p.region) in
+      (λ h. both.1 (field.0 h.1, region.0 h.0), λ c. let b = both.0 c in (region.1 b.1, field.1 b.0))
 
-    pub effect_law : (globals sc : Scope) (e : Effect) → IsTypedEffect tables globals sc e ↔ IsClean (flaws_of_effect tables globals sc e)
-    effect_law globals sc (Global x) = iff_then (some_is_tested (find_variable x globals)) (iff_back (unknown_clean _))
-    effect_law globals sc (Locations p) = place_law sc p
+  pub effect_law : (globals sc : Scope) (e : Effect) → IsTypedEffect tables globals sc e ↔ IsClean (flaws_of_effect tables globals sc e)
+  effect_law globals sc (Global x) = iff_then (some_is_tested (find_variable x globals)) (iff_back (unknown_clean _))
+  effect_law globals sc (Locations p) = place_law sc p
 
-    pub effects_law : (globals sc : Scope) (es : List Effect) → AllByRecursion (IsTypedEffect tables globals sc) es ↔ IsClean (flaws_of_all tables (flaws_of_effect tables globals sc) es)
-    effects_law globals sc es = iff_then (iff_all (IsTypedEffect tables globals sc) _ (effect_law globals sc) es) (iff_back (clean_all tables (flaws_of_effect tables globals sc) es))
+  pub effects_law : (globals sc : Scope) (es : List Effect) → AllByRecursion (IsTypedEffect tables globals sc) es ↔ IsClean (flaws_of_all tables (flaws_of_effect tables globals sc) es)
+  effects_law globals sc es = iff_then (iff_all (IsTypedEffect tables globals sc) _ (effect_law globals sc) es) (iff_back (clean_all tables (flaws_of_effect tables globals sc) es))
 
-    pub places_law : (sc : Scope) (ps : List Place) → AllByRecursion (IsTypedPlace tables sc) ps ↔ IsClean (flaws_of_all tables (flaws_of_place tables sc) ps)
-    places_law sc ps = iff_then (iff_all (IsTypedPlace tables sc) _ (place_law sc) ps) (iff_back (clean_all tables (flaws_of_place tables sc) ps))
+  pub places_law : (sc : Scope) (ps : List Place) → AllByRecursion (IsTypedPlace tables sc) ps ↔ IsClean (flaws_of_all tables (flaws_of_place tables sc) ps)
+  places_law sc ps = iff_then (iff_all (IsTypedPlace tables sc) _ (place_law sc) ps) (iff_back (clean_all tables (flaws_of_place tables sc) ps))
 
-    -- ---- clauses
+  -- ---- clauses
 
-    pub clause_law : (old : Bool) (sc : Scope) (c : Clause) → IsTypedFormula tables old sc c.formula ↔ HasNoFault (λ pass. clause_fault tables pass old sc c)
-    clause_law old sc c = iff_then (below.formula_law tables old sc c.formula) (iff_back (no_fault_at c.at _))
+  pub clause_law : (old : Bool) (sc : Scope) (c : Clause) → IsTypedFormula tables old sc c.formula ↔ HasNoFault (λ pass. clause_fault tables pass old sc c)
+  clause_law old sc c = iff_then (formula_law tables old sc c.formula) (iff_back (no_fault_at c.at _))
 
-    pub rel_clause_law : (old : Bool) (l r : Scope) (c : RelClause) → IsTypedRel tables old l r c.formula ↔ HasNoFault (λ pass. rel_clause_fault tables pass old l r c)
-    rel_clause_law old l r c = iff_then (below.rel_law tables old l r c.formula) (iff_back (no_fault_at c.at _))
+  pub rel_clause_law : (old : Bool) (l r : Scope) (c : RelClause) → IsTypedRel tables old l r c.formula ↔ HasNoFault (λ pass. rel_clause_fault tables pass old l r c)
+  rel_clause_law old l r c = iff_then (rel_law tables old l r c.formula) (iff_back (no_fault_at c.at _))
 
-    pub clauses_law : (g : Setting) (s : Spec)
-        → (IsTypedFormula tables false (pre_scope g) s.needs.formula × IsTypedFormula tables true (post_scope g) s.gives.formula) ↔ HasNoFault (λ pass. clauses_fault tables pass g s)
-    clauses_law g s = iff_then (iff_both (clause_law false (pre_scope g) s.needs) (clause_law true (post_scope g) s.gives))
-        (iff_back (no_fault_in_both (λ pass. clause_fault tables pass false (pre_scope g) s.needs) (λ pass. clause_fault tables pass true (post_scope g) s.gives)))
+  pub clauses_law : (g : Setting) (s : Spec)
+      → (IsTypedFormula tables false (pre_scope g) s.needs.formula × IsTypedFormula tables true (post_scope g) s.gives.formula) ↔ HasNoFault (λ pass. clauses_fault tables pass g s)
+  clauses_law g s = iff_then (iff_both (clause_law false (pre_scope g) s.needs) (clause_law true (post_scope g) s.gives))
+      (iff_back (no_fault_in_both (λ pass. clause_fault tables pass false (pre_scope g) s.needs) (λ pass. clause_fault tables pass true (post_scope g) s.gives)))
 
-    -- ---- heads
+  -- ---- heads
 
-    pub record IsTypedHead (g : Setting) (es : List Effect) (t : Ty) : Type 0 where
-      pub names : repeats (seen_by_members (globals_of g)) (declared_names (g.parameters ++ g.locals)) ≡ false
-      pub params : HaveTypes tables g.parameters
-      pub locals : HaveTypes tables g.locals
-      pub result : IsDeclaredType tables t
-      pub writes : AreTypedWrites tables g es
+  pub record IsTypedHead (g : Setting) (es : List Effect) (t : Ty) : Type 0 where
+    pub names : repeats (seen_by_members (globals_of g)) (declared_names (g.parameters ++ g.locals)) ≡ false
+    pub params : HaveTypes tables g.parameters
+    pub locals : HaveTypes tables g.locals
+    pub result : IsDeclaredType tables t
+    pub writes : AreTypedWrites tables g es
 
-    pub head_law : (pass : Pass) (g : Setting) (writes : List Effect) (result : Ty) → IsTypedHead g writes result ↔ IsClean (flaws_of_head tables pass g writes result)
-    head_law pass g writes result =
-        let both = clean_both (record flawless {
-          twice = repeats (seen_by_members (globals_of g)) (declared_names (g.parameters ++ g.locals));
-          unknown = have_unknown_types tables (g.parameters ++ g.locals) || names_unknown_class tables result;
-        }) (flaws_of_all tables (flaws_of_effect tables (globals_of g) (pre_scope g)) writes) in
-        let two = twice_unknown_clean (repeats (seen_by_members (globals_of g)) (declared_names (g.parameters ++ g.locals))) (have_unknown_types tables (g.parameters ++ g.locals) || names_unknown_class tables result) in
-        let types = or_false (have_unknown_types tables (g.parameters ++ g.locals)) (names_unknown_class tables result) in
-        let declared = types_append g.parameters g.locals in
-        let given = type_law result in
-        let written = effects_law (globals_of g) (pre_scope g) writes in
-        (
-          λ h. both.1 (two.1 (h.names, types.1 (declared.0 (h.params, h.locals), given.0 h.result)), written.0 h.writes),
-          λ c.
-            let b = both.0 c in
-            let t = two.0 b.0 in
-            let u = types.0 t.1 in
-            let d = declared.1 u.0 in
-            record { names = t.0; params = d.0; locals = d.1; result = given.1 u.1; writes = written.1 b.1 },
-        )
+  pub head_law : (pass : Pass) (g : Setting) (writes : List Effect) (result : Ty) → IsTypedHead g writes result ↔ IsClean (flaws_of_head tables pass g writes result)
+  head_law pass g writes result =
+      let both = clean_both (record flawless {
+        twice = repeats (seen_by_members (globals_of g)) (declared_names (g.parameters ++ g.locals));
+        unknown = have_unknown_types tables (g.parameters ++ g.locals) || names_unknown_class tables result;
+      }) (flaws_of_all tables (flaws_of_effect tables (globals_of g) (pre_scope g)) writes) in
+      let two = twice_unknown_clean (repeats (seen_by_members (globals_of g)) (declared_names (g.parameters ++ g.locals))) (have_unknown_types tables (g.parameters ++ g.locals) || names_unknown_class tables result) in
+      let types = or_false (have_unknown_types tables (g.parameters ++ g.locals)) (names_unknown_class tables result) in
+      let declared = types_append g.parameters g.locals in
+      let given = type_law result in
+      let written = effects_law (globals_of g) (pre_scope g) writes in
+      (
+        λ h. both.1 (two.1 (h.names, types.1 (declared.0 (h.params, h.locals), given.0 h.result)), written.0 h.writes),
+        λ c.
+          let b = both.0 c in
+          let t = two.0 b.0 in
+          let u = types.0 t.1 in
+          let d = declared.1 u.0 in
+          record { names = t.0; params = d.0; locals = d.1; result = given.1 u.1; writes = written.1 b.1 },
+      )
 
-    -- ---- procedures
+  -- ---- procedures
 
-    abbrev pub setting_of_proc : Scope → Scope → Proc → Setting
-    setting_of_proc interface own q = record { interface = interface; own = own; parameters = q.params; locals = q.body.locals; result = Some q.result }
+  abbrev pub setting_of_proc : Scope → Scope → Proc → Setting
+  setting_of_proc interface own q = record { interface = interface; own = own; parameters = q.params; locals = q.body.locals; result = Some q.result }
 
-    pub proc_law : (interface own : Scope) (callees : List Signature) (more : Flaws) (q : Proc) → AreDistinct (result_name ∷ names_of (interface ++ own))
-        → HasNoFault (λ pass. proc_fault tables pass (setting_of_proc interface own q) callees more q) ↔ (IsClean more × IsTypedProc tables (setting_of_proc interface own q) callees q)
-    proc_law interface own callees more q premise =
-        let g = setting_of_proc interface own q in
-        let names = body_with_result g q.result refl premise in
-        let place = at_first q.at (either more (flaws_of_head tables ForTwice g q.spec.writes q.result))
-            (λ pass. first_of (clauses_fault tables pass g q.spec) (block_fault tables pass (record { scope = body_scope g; callees = callees; may_call = true }) q.body.commands)) in
-        let rest = no_fault_in_both (λ pass. clauses_fault tables pass g q.spec) (λ pass. block_fault tables pass (record { scope = body_scope g; callees = callees; may_call = true }) q.body.commands) in
-        let flaws = clean_both more (flaws_of_head tables ForTwice g q.spec.writes q.result) in
-        let head = head_law ForTwice g q.spec.writes q.result in
-        let clauses = clauses_law g q.spec in
-        let commands = below.block_law tables (record { scope = body_scope g; callees = callees; may_call = true }) q.body.commands in
-        (
-          λ h.
-            let p = place.0 h in
-            let r = rest.0 p.1 in
-            let f = flaws.0 p.0 in
-            let t = head.1 f.1 in
-            let c = clauses.1 r.0 in
-            (f.0, record {
-              params = t.params; result = t.result;
-              spec = record { needs = c.0; gives = c.1; writes = t.writes };
-              body = record { names = names.1 t.names; locals = t.locals; commands = commands.1 r.1 };
-            }),
-          λ h.
-            let t = h.1 in
-            place.1 (
-              flaws.1 (h.0, head.0 (record { names = names.0 t.body.names; params = t.params; locals = t.body.locals; result = t.result; writes = t.spec.writes })),
-              rest.1 (clauses.0 (t.spec.needs, t.spec.gives), commands.0 t.body.commands),
-            ),
-        )
+  pub proc_law : (interface own : Scope) (callees : List Signature) (more : Flaws) (q : Proc) → AreDistinct (result_name ∷ names_of (interface ++ own))
+      → HasNoFault (λ pass. proc_fault tables pass (setting_of_proc interface own q) callees more q) ↔ (IsClean more × IsTypedProc tables (setting_of_proc interface own q) callees q)
+  proc_law interface own callees more q premise =
+      let g = setting_of_proc interface own q in
+      let names = body_with_result g q.result refl premise in
+      let place = at_first q.at (either more (flaws_of_head tables ForTwice g q.spec.writes q.result))
+          (λ pass. first_of (clauses_fault tables pass g q.spec) (block_fault tables pass (record { scope = body_scope g; callees = callees; may_call = true }) q.body.commands)) in
+      let rest = no_fault_in_both (λ pass. clauses_fault tables pass g q.spec) (λ pass. block_fault tables pass (record { scope = body_scope g; callees = callees; may_call = true }) q.body.commands) in
+      let flaws = clean_both more (flaws_of_head tables ForTwice g q.spec.writes q.result) in
+      let head = head_law ForTwice g q.spec.writes q.result in
+      let clauses = clauses_law g q.spec in
+      let commands = block_law tables (record { scope = body_scope g; callees = callees; may_call = true }) q.body.commands in
+      (
+        λ h.
+          let p = place.0 h in
+          let r = rest.0 p.1 in
+          let f = flaws.0 p.0 in
+          let t = head.1 f.1 in
+          let c = clauses.1 r.0 in
+          (f.0, record {
+            params = t.params; result = t.result;
+            spec = record { needs = c.0; gives = c.1; writes = t.writes };
+            body = record { names = names.1 t.names; locals = t.locals; commands = commands.1 r.1 };
+          }),
+        λ h.
+          let t = h.1 in
+          place.1 (
+            flaws.1 (h.0, head.0 (record { names = names.0 t.body.names; params = t.params; locals = t.body.locals; result = t.result; writes = t.spec.writes })),
+            rest.1 (clauses.0 (t.spec.needs, t.spec.gives), commands.0 t.body.commands),
+          ),
+      )
