@@ -1,20 +1,20 @@
 -- A bundle is typed exactly where it has no fault.
-use Rattle.std.proofs.Common.{◌≡◌, ◌↔◌, ℕ, Bool, true, false, not, ◌||◌, if◌then◌else◌, List, [], ◌∷◌, ◌++◌, map, Option, Some, None, IsSomeAnd, IfSome, refl, sym, ap, subst, ◌∙◌, true≢false}
+use Rattle.std.proofs.Common.{◌≡◌, ◌↔◌, ℕ, Bool, true, false, ◌||◌, if◌then◌else◌, List, [], ◌∷◌, ◌++◌, map, Option, Some, None, IsSomeAnd, IfSome, refl, sym, ap, subst, ◌∙◌, true≢false}
 use Rattle.std.specs.Prelude.{bytes_eq, is_none}
 use Rattle.std.specs.List.{AllByRecursion}
-use Rattle.rel_lang.specs.Syntax.{Word, Decl, Proc, ClassItem, Interface, Module, Client, ModulePair, Item, OfClass, OfInterface, OfModule, OfUnit, OfClient, OfJudgement, OfPair, Bundle}
+use Rattle.rel_lang.specs.Syntax.{Word, Decl, Proc, Interface, Module, Client, ModulePair, Item, OfClass, OfInterface, OfModule, OfUnit, OfClient, OfJudgement, OfPair, Bundle}
 use Rattle.rel_lang.specs.State.{ClassField, tables_of, class_items, fields_of, find_named}
 use Rattle.rel_lang.specs.Scope.{globals_of}
 use Rattle.rel_lang.specs.Lookup.{interfaces_of, modules_of, find_interface, find_module, find_main, subject_of}
-use Rattle.rel_lang.specs.Typed.{AreDistinct, HaveTypes, item_name, IsTypedInterface, IsTypedModule, IsTypedClient, IsTypedPair, IsTypedItem, IsTyped}
+use Rattle.rel_lang.specs.Typed.{AreDistinct, item_name, IsTypedInterface, IsTypedModule, IsTypedClient, IsTypedPair, IsTypedItem}
 use Rattle.rel_types.specs.Flaws.{Flaws, flawless, either, Pass, ForTwice, ForOthers, Fault, fault_at, first_of, first_in}
 use Rattle.rel_types.specs.Inference.{is_among, have_unknown_types}
 use Rattle.rel_types.specs.Alignments.{align_fault}
-use Rattle.rel_types.specs.Items.{repeats, declared_names, twice_where, globals_of_interface, flaws_of_globals, clause_fault, rel_clause_fault, proc_fault, first_named, misses_methods, init_in_module, method_in_module, signatures_of, module_body_fault, module_fault, setting_in_client, callees_in_client, flaws_of_client_proc, client_fault, interface_of_module, differ_in_interface, globals_of_side, init_of_side, method_of_side, module_sides, pair_fault, item_fault, items_fault, first_fault}
+use Rattle.rel_types.specs.Items.{repeats, declared_names, twice_where, globals_of_interface, flaws_of_globals, clause_fault, rel_clause_fault, proc_fault, first_named, misses_methods, init_in_module, method_in_module, signatures_of, module_body_fault, module_fault, setting_in_client, callees_in_client, flaws_of_client_proc, client_fault, interface_of_module, differ_in_interface, globals_of_side, init_of_side, method_of_side, module_sides, pair_fault, item_fault, items_fault}
 use Rattle.rel_types.specs.Laws.{TypedHaveNoFault}
 use Rattle.rel_types.proofs.Clean.{IsClean, HasNoFault, or_false, first_none, no_fault_in_both, clean_both}
 use Rattle.rel_types.proofs.Names.{AreApart, apart_from_nothing, apart_cons, apart_append, apart_of_append, among_is_false, same_from_true, distinct_append, repeats_is_false}
-use Rattle.rel_types.proofs.Equivalences.{iff_same, iff_back, iff_then, iff_both, iff_all, map_append, map_map, some_weaker}
+use Rattle.rel_types.proofs.Equivalences.{iff_same, iff_then, iff_both, iff_all, map_append, map_map}
 use Rattle.rel_types.proofs.Procedures.{at_first}
 use Rattle.rel_types.proofs.Units.{twice_clean, class_law, interface_law, unit_law}
 use Rattle.rel_types.proofs.Modules.{module_law}
@@ -150,7 +150,7 @@ module _ (b : Bundle) where
   item_law seen fields (OfClient c) = iff_then (split_client b (twice_where (is_among c.name seen)) (find_interface b c.interface) c) (no_fields seen c.name (IsFine b (OfClient c)))
   item_law seen fields (OfJudgement j) =
       iff_then (judgement_law b (twice_where (is_among j.name seen)) (subject_of b j.left) (subject_of b j.right) j) (no_fields seen j.name (IsFine b (OfJudgement j)))
-  item_law seen fields (OfPair p) = 
+  item_law seen fields (OfPair p) =
       iff_then (split_pair b (twice_where (is_among p.name seen)) (find_module b p.left) (find_module b p.right) (interface_of_module b (find_module b p.left)) p) (no_fields seen p.name (IsFine b (OfPair p)))
 
   items_law : (seen fields : List Word) (is : List Item) → HasNoFault (λ pass. items_fault b pass seen fields is)
@@ -165,23 +165,22 @@ module _ (b : Bundle) where
       let own = repeats_is_false fields (own_fields i) in
       let all = distinct_append (own_fields i) (fields_in is) in
       let before = apart_append (own_fields i) fields (fields_in is) in
-      let later = apart_of_append fields (own_fields i) (fields_in is) in
-      (
+      let later = apart_of_append fields (own_fields i) (fields_in is) in (
         λ h.
-          let w = whole.0 h in
-          let e = here.0 w.0 in
-          let r = rest.0 w.1 in
-          let n = names.0 r.0.1 in
-          let o = own.0 e.1.0 in
-          let x = before.0 r.1.0.1 in
-          (((n.0, r.0.0), (among.0 e.0, n.1)), ((all.1 (o.0, r.1.0.0, x.0), later.1 (o.1, x.1)), (e.1.1, r.1.1))),
+            let w = whole.0 h in
+            let e = here.0 w.0 in
+            let r = rest.0 w.1 in
+            let n = names.0 r.0.1 in
+            let o = own.0 e.1.0 in
+            let x = before.0 r.1.0.1 in
+            (((n.0, r.0.0), (among.0 e.0, n.1)), ((all.1 (o.0, r.1.0.0, x.0), later.1 (o.1, x.1)), (e.1.1, r.1.1))),
         λ h.
-          let a = all.0 h.1.0.0 in
-          let l = later.0 h.1.0.1 in
-          whole.1 (
-            here.1 (among.1 h.0.1.0, (own.1 (a.0, l.0), h.1.1.0)),
-            rest.1 ((h.0.0.1, names.1 (h.0.0.0, h.0.1.1)), ((a.1, before.1 (a.2, l.1)), h.1.1.1)),
-          ),
+            let a = all.0 h.1.0.0 in
+            let l = later.0 h.1.0.1 in
+            whole.1 (
+              here.1 (among.1 h.0.1.0, (own.1 (a.0, l.0), h.1.1.0)),
+              rest.1 ((h.0.0.1, names.1 (h.0.0.0, h.0.1.1)), ((a.1, before.1 (a.2, l.1)), h.1.1.1)),
+            ),
       )
 
   -- ---- from fine to typed
@@ -249,9 +248,9 @@ module _ (b : Bundle) where
   all_typed : AllByRecursion (IsFine b) b.items ↔ AllByRecursion (IsTypedItem b) b.items
   all_typed = (
     λ h.
-      let interfaces = interfaces_typed (IsFine b) (λ i t. t) h in
-      let modules = modules_typed (IsFine b) (λ m f. (module_item m (find_interface b m.interface) (interfaces m.interface)).0 f) h in
-      (iff_all (IsFine b) (IsTypedItem b) (typed_law interfaces modules) b.items).0 h,
+        let interfaces = interfaces_typed (IsFine b) (λ i t. t) h in
+        let modules = modules_typed (IsFine b) (λ m f. (module_item m (find_interface b m.interface) (interfaces m.interface)).0 f) h in
+        (iff_all (IsFine b) (IsTypedItem b) (typed_law interfaces modules) b.items).0 h,
     λ h. (iff_all (IsFine b) (IsTypedItem b) (typed_law (interfaces_typed (IsTypedItem b) (λ i t. t) h) (modules_typed (IsTypedItem b) (λ m t. t) h)) b.items).1 h,
   )
 
@@ -259,8 +258,7 @@ pub bundle_law : TypedHaveNoFault
 bundle_law b =
     let items = items_law b [] [] b.items in
     let passes = first_none (items_fault b ForTwice [] [] b.items) (items_fault b ForOthers [] [] b.items) in
-    let typed = all_typed b in
-    (
+    let typed = all_typed b in (
       λ t. passes.1 (items.1 (
         (t.names, apart_from_nothing (map item_name b.items)),
         ((subst AreDistinct (field_names b.items) t.fields, apart_from_nothing (fields_in b.items)), typed.1 t.items),

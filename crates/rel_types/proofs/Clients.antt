@@ -1,18 +1,18 @@
 -- Clients of a typed interface.
-use Rattle.std.proofs.Common.{◌≡◌, ◌↔◌, ℕ, Bool, true, false, not, ◌||◌, ◌&&◌, if◌then◌else◌, List, [], ◌∷◌, ◌++◌, map, Option, Some, None, IsSomeAnd, refl, sym, ap, subst, ◌∙◌, inl, inr, true≢false}
+use Rattle.std.proofs.Common.{◌≡◌, ◌↔◌, Bool, true, false, not, ◌||◌, ◌&&◌, if◌then◌else◌, List, [], ◌∷◌, ◌++◌, map, Some, IsSomeAnd, refl, sym, ap, subst, ◌∙◌, inl, inr, true≢false}
 use Rattle.std.specs.Prelude.{bytes_eq, is_none}
 use Rattle.std.specs.List.{AllByRecursion}
 use Rattle.rel_lang.specs.Syntax.{Word, Decl, Proc, Sig, Interface, Client}
-use Rattle.rel_lang.specs.State.{Tables, Scope, ByClient, find_named}
+use Rattle.rel_lang.specs.State.{Tables, ByClient, find_named}
 use Rattle.rel_lang.specs.Scope.{result_name, interface_globals, client_globals, client_setting}
 use Rattle.rel_lang.specs.Lookup.{main_name, find_main}
 use Rattle.rel_lang.specs.Typed.{IsAmong, AreDistinct, names_of, Signature, signature_of_proc, signature_of_method, IsTypedProc, IsTypedInterface, client_callees, IsTypedClient}
-use Rattle.rel_types.specs.Flaws.{Flaws, flawless, either, Pass, Fault, fault_at, first_of}
+use Rattle.rel_types.specs.Flaws.{Flaws, flawless, either, Pass}
 use Rattle.rel_types.specs.Inference.{is_among}
 use Rattle.rel_types.specs.Items.{declared_names, first_named, flaws_of_globals, proc_fault, is_empty, flaws_of_client_proc, setting_in_client, callees_in_client, client_fault}
 use Rattle.rel_types.proofs.Clean.{IsClean, HasNoFault, or_false, clean_both}
-use Rattle.rel_types.proofs.Names.{AreApart, apart_from_nothing, apart_turned, apart_is_false, among_is_false, same_from_true, true_from_same, distinct_append}
-use Rattle.rel_types.proofs.Equivalences.{iff_same, iff_back, iff_then, iff_both, iff_all, all_both, all_mapped, map_append, map_map}
+use Rattle.rel_types.proofs.Names.{apart_from_nothing, apart_turned, apart_is_false, among_is_false, same_from_true, true_from_same, distinct_append}
+use Rattle.rel_types.proofs.Equivalences.{all_both, all_mapped, map_append, map_map}
 use Rattle.rel_types.proofs.Procedures.{at_first, names_append, names_declared, proc_law}
 use Rattle.rel_types.proofs.Units.{named_law, globals_law}
 
@@ -54,8 +54,10 @@ main_to x (q ∷ qs) distinct h = by_name (bytes_eq x q.name) refl (main_to x qs
         → (is_none (if b then Some q else find_named (λ r. r.name) x qs) ≡ false) × (HasNoParameters x q × AllByRecursion (HasNoParameters x) qs)
     by_name true same later h = (
       refl,
-      (and_false (bytes_eq q.name x) (not (is_empty q.params)) ((empty_is_tested q.params).1 h),
-        none_of_this_name x qs (subst (λ n. ¬ (IsAmong n (map (λ r. r.name) qs))) (sym (same_from_true x q.name same)) distinct.0)),
+      (
+        and_false (bytes_eq q.name x) (not (is_empty q.params)) ((empty_is_tested q.params).1 h),
+        none_of_this_name x qs (subst (λ n. ¬ (IsAmong n (map (λ r. r.name) qs))) (sym (same_from_true x q.name same)) distinct.0),
+      ),
     )
     by_name false other later h = let l = later h in (l.0, (not_this x q (λ same. (apart_is_false x q.name).0 other (sym same)), l.1))
 
@@ -94,13 +96,12 @@ module _ (tables : Tables) where
       let proc = proc_law tables (interface_globals i) (client_globals c) (client_callees tables i c) (flaws_of_client_proc (Some i) seen q) q premise in
       let flaws = twice_main_clean (is_among q.name seen || is_among q.name (map (λ (m : Sig). m.name) i.methods)) (bytes_eq q.name main_name && not (is_empty q.params)) in
       let twice = or_false (is_among q.name seen) (is_among q.name (map (λ (m : Sig). m.name) i.methods)) in
-      let method = among_is_false q.name (map (λ (m : Sig). m.name) i.methods) in
-      (
+      let method = among_is_false q.name (map (λ (m : Sig). m.name) i.methods) in (
         λ h.
-          let p = proc.0 h in
-          let f = flaws.0 p.0 in
-          let t = twice.0 f.0 in
-          (t.0, ((method.0 t.1, f.1), p.1)),
+            let p = proc.0 h in
+            let f = flaws.0 p.0 in
+            let t = twice.0 f.0 in
+            (t.0, ((method.0 t.1, f.1), p.1)),
         λ h. proc.1 (flaws.1 (twice.1 (h.0, method.1 h.1.0.0), h.1.0.1), h.1.1),
       )
 
@@ -109,7 +110,7 @@ module _ (tables : Tables) where
   client_law more i c typed named =
       let parts = record flawless { unknown = is_none (Some i); no_main = is_none (find_main c) } in
       let members = λ (pass : Pass). first_named (λ (q : Proc). q.name)
-          (λ seen q. proc_fault tables pass (setting_in_client (Some i) c q) (callees_in_client (Some i) c) (flaws_of_client_proc (Some i) seen q) q) [] c.procs in
+      (λ seen q. proc_fault tables pass (setting_in_client (Some i) c q) (callees_in_client (Some i) c) (flaws_of_client_proc (Some i) seen q) q) [] c.procs in
       let place = at_first c.at (either more (either (flaws_of_globals tables (interface_globals i) c.globals) parts)) members in
       let flaws = clean_both more (either (flaws_of_globals tables (interface_globals i) c.globals) parts) in
       let own = clean_both (flaws_of_globals tables (interface_globals i) c.globals) parts in
@@ -117,39 +118,43 @@ module _ (tables : Tables) where
       let main = unknown_main_clean (is_none (Some i)) (is_none (find_main c)) in
       let sees = client_names i c in
       let names = λ (premise : AreDistinct (result_name ∷ names_of (interface_globals i ++ client_globals c))).
-          named_law (λ q. q.name) (λ pass seen q. proc_fault tables pass (setting_in_client (Some i) c q) (callees_in_client (Some i) c) (flaws_of_client_proc (Some i) seen q) q)
-          (IsRight tables i c) (client_proc_law i c premise) [] c.procs in
+      named_law (λ q. q.name) (λ pass seen q. proc_fault tables pass (setting_in_client (Some i) c q) (callees_in_client (Some i) c) (flaws_of_client_proc (Some i) seen q) q)
+      (IsRight tables i c) (client_proc_law i c premise) [] c.procs in
       let split = all_both (λ q. ¬ (IsAmong q.name (map (λ (m : Sig). m.name) i.methods)) × HasNoParameters main_name q)
-          (λ q. IsTypedProc tables (client_setting i c q) (client_callees tables i c) q) c.procs in
+      (λ q. IsTypedProc tables (client_setting i c q) (client_callees tables i c) q) c.procs in
       let tests = all_both (λ q. ¬ (IsAmong q.name (map (λ (m : Sig). m.name) i.methods))) (HasNoParameters main_name) c.procs in
       let apart = all_mapped (λ x. ¬ (IsAmong x (map (λ (m : Sig). m.name) i.methods))) (λ (q : Proc). q.name) c.procs in
-      let callees = distinct_append (map (λ (q : Proc). q.name) c.procs) (map (λ (q : Sig). q.name) i.methods) in
-      (
+      let callees = distinct_append (map (λ (q : Proc). q.name) c.procs) (map (λ (q : Sig). q.name) i.methods) in (
         λ h.
-          let p = place.0 h in
-          let f = flaws.0 p.0 in
-          let o = own.0 f.1 in
-          let g = globals.0 o.0 in
-          let premise : AreDistinct (result_name ∷ names_of (interface_globals i ++ client_globals c)) = subst (λ ns. AreDistinct (result_name ∷ ns)) (sym sees) g.0 in
-          let m = (names premise).0 p.1 in
-          let s = split.0 m.1 in
-          let t = tests.0 s.0 in
-          (f.0, record {
-            interface = named; types = g.1; names = premise;
-            proc_names = subst AreDistinct (sym (callee_names i c tables)) (callees.1 (m.0.0, typed.method_names, apart_turned (map (λ q. q.name) i.methods) (map (λ q. q.name) c.procs) (apart.0 t.0)));
-            main = main_from main_name c.procs (main.0 o.1).1 t.1; procs = s.1;
-          }),
-        λ h.
-          let t = h.1 in
-          let d = callees.0 (subst AreDistinct (callee_names i c tables) t.proc_names) in
-          let e = main_to main_name c.procs d.0 t.main in
-          place.1 (
-            flaws.1 (h.0, own.1 (globals.1 (subst (λ ns. AreDistinct (result_name ∷ ns)) sees t.names, t.types), main.1 (refl, e.0))),
-            (names t.names).1 (
-              (d.0, apart_from_nothing (map (λ q. q.name) c.procs)),
-              split.1 (tests.1 (apart.1 (apart_turned (map (λ q. q.name) c.procs) (map (λ q. q.name) i.methods) d.2), e.1), t.procs),
+            let p = place.0 h in
+            let f = flaws.0 p.0 in
+            let o = own.0 f.1 in
+            let g = globals.0 o.0 in
+            let premise : AreDistinct (result_name ∷ names_of (interface_globals i ++ client_globals c)) = subst (λ ns. AreDistinct (result_name ∷ ns)) (sym sees) g.0 in
+            let m = (names premise).0 p.1 in
+            let s = split.0 m.1 in
+            let t = tests.0 s.0 in (
+              f.0,
+              record {
+                interface = named;
+                types = g.1;
+                names = premise;
+                proc_names = subst AreDistinct (sym (callee_names i c tables)) (callees.1 (m.0.0, typed.method_names, apart_turned (map (λ q. q.name) i.methods) (map (λ q. q.name) c.procs) (apart.0 t.0)));
+                main = main_from main_name c.procs (main.0 o.1).1 t.1;
+                procs = s.1;
+              },
             ),
-          ),
+        λ h.
+            let t = h.1 in
+            let d = callees.0 (subst AreDistinct (callee_names i c tables) t.proc_names) in
+            let e = main_to main_name c.procs d.0 t.main in
+            place.1 (
+              flaws.1 (h.0, own.1 (globals.1 (subst (λ ns. AreDistinct (result_name ∷ ns)) sees t.names, t.types), main.1 (refl, e.0))),
+              (names t.names).1 (
+                (d.0, apart_from_nothing (map (λ q. q.name) c.procs)),
+                split.1 (tests.1 (apart.1 (apart_turned (map (λ q. q.name) c.procs) (map (λ q. q.name) i.methods) d.2), e.1), t.procs),
+              ),
+            ),
       )
 
 pub trial_point : true ≡ true

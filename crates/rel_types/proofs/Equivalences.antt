@@ -1,6 +1,6 @@
 -- Equivalences put together.
-use Rattle.std.proofs.Common.{◌≡◌, ◌↔◌, Bool, true, false, not, ◌||◌, List, [], ◌∷◌, ◌++◌, map, Option, Some, None, IsSome, IsSomeAnd, refl, sym, ap, subst, ◌∙◌, true≢false}
-use Rattle.std.specs.Prelude.{is_some, is_none}
+use Rattle.std.proofs.Common.{◌≡◌, ◌↔◌, false, not, List, [], ◌∷◌, ◌++◌, map, Option, Some, None, IsSome, IsSomeAnd, refl, sym, ap, subst, true≢false}
+use Rattle.std.specs.Prelude.{is_some}
 use Rattle.std.specs.List.{AllByRecursion}
 
 pub iff_same : {A : Type 0} → A ↔ A

@@ -1,19 +1,19 @@
 -- Judgements, and pairs of typed modules.
-use Rattle.std.proofs.Common.{◌≡◌, ◌↔◌, ℕ, Bool, true, false, not, ◌||◌, List, [], ◌∷◌, ◌++◌, map, Option, Some, None, IsSomeAnd, refl, sym, ap, subst, ◌∙◌, true≢false}
+use Rattle.std.proofs.Common.{◌≡◌, ◌↔◌, ℕ, true, false, ◌||◌, List, [], ◌∷◌, map, Option, Some, None, IsSomeAnd, refl, sym, subst, true≢false}
 use Rattle.std.specs.Prelude.{bytes_eq, is_none, option_map}
 use Rattle.std.specs.List.{AllByRecursion}
 use Rattle.rel_lang.specs.Syntax.{Word, Body, Sig, Interface, Module, Judgement, ModulePair, Align, Bundle}
 use Rattle.rel_lang.specs.State.{tables_of}
 use Rattle.rel_lang.specs.Scope.{globals_of, init_setting, method_setting, unit_setting, pre_scope, post_scope}
 use Rattle.rel_lang.specs.Lookup.{judgements_of, find_body, Subject}
-use Rattle.rel_lang.specs.Typed.{IsTypedAlign, IsTypedInterface, IsTypedModule, IsTypedBody, IsTypedJudgement, subject_names, module_sides as typed_module_sides, IsTypedAlignOf, IsTypedPair}
+use Rattle.rel_lang.specs.Typed.{IsTypedAlign, IsTypedInterface, IsTypedModule, IsTypedBody, IsTypedJudgement, module_sides as typed_module_sides, IsTypedAlignOf, IsTypedPair}
 use Rattle.rel_types.specs.Flaws.{Flaws, flawless, either, Pass, ForTwice, Fault, first_of, first_in}
 use Rattle.rel_types.specs.Code.{unknown_where}
 use Rattle.rel_types.specs.Alignments.{Sides, align_fault}
 use Rattle.rel_types.specs.Items.{rel_clause_fault, setting_in_module, code_of_subject, pre_scope_of_subject, post_scope_of_subject, globals_of_side, code_in_module, init_of_side, method_of_side, differ_in_interface, misses_methods, judgement_fault, module_sides, pair_fault}
 use Rattle.rel_types.proofs.Clean.{IsClean, HasNoFault, or_false, no_fault_in_both, no_fault_in_list, clean_both}
 use Rattle.rel_types.proofs.Names.{not_is_false, same_names_are_same, same_from_true, true_from_same}
-use Rattle.rel_types.proofs.Equivalences.{iff_same, iff_back, iff_then, iff_both, all_weaker, some_weaker}
+use Rattle.rel_types.proofs.Equivalences.{iff_same, iff_back, iff_then, iff_both, some_weaker}
 use Rattle.rel_types.proofs.AlignmentsTyped.{align_law}
 use Rattle.rel_types.proofs.Procedures.{at_first, unknown_clean, rel_clause_law}
 use Rattle.rel_types.proofs.Modules.{unknown_missing_clean}
@@ -36,11 +36,11 @@ module _ (b : Bundle) where
       × HasNoFault (λ pass. align_fault (tables_of b) pass (sides_of l r j) j.align))))
   judgement_parts more l r j =
       iff_then (at_first j.at (either more (unknown_where (is_none l || is_none r)))
-          (λ pass. first_of (rel_clause_fault (tables_of b) pass false (pre_scope_of_subject l) (pre_scope_of_subject r) j.needs) (gives_and_align l r j pass)))
+      (λ pass. first_of (rel_clause_fault (tables_of b) pass false (pre_scope_of_subject l) (pre_scope_of_subject r) j.needs) (gives_and_align l r j pass)))
       (iff_both (iff_then (clean_both more (unknown_where (is_none l || is_none r))) (iff_both iff_same (unknown_clean (is_none l || is_none r))))
       (iff_then (no_fault_in_both (λ pass. rel_clause_fault (tables_of b) pass false (pre_scope_of_subject l) (pre_scope_of_subject r) j.needs) (gives_and_align l r j))
       (iff_both iff_same (no_fault_in_both (λ pass. rel_clause_fault (tables_of b) pass true (post_scope_of_subject l) (post_scope_of_subject r) j.gives)
-          (λ pass. align_fault (tables_of b) pass (sides_of l r j) j.align)))))
+      (λ pass. align_fault (tables_of b) pass (sides_of l r j) j.align)))))
 
   pub judgement_law : (more : Flaws) (l r : Option Subject) (j : Judgement) → HasNoFault (λ pass. judgement_fault b pass more l r j)
       ↔ (IsClean more × IsSomeAnd l (λ x. IsSomeAnd r (λ y. IsTypedJudgement b j x y)))
@@ -50,8 +50,7 @@ module _ (b : Bundle) where
       let parts = judgement_parts more (Some x) (Some y) j in
       let needs = rel_clause_law (tables_of b) false (pre_scope (unit_setting x.unit x.proc)) (pre_scope (unit_setting y.unit y.proc)) j.needs in
       let gives = rel_clause_law (tables_of b) true (post_scope (unit_setting x.unit x.proc)) (post_scope (unit_setting y.unit y.proc)) j.gives in
-      let align = align_law (tables_of b) (sides_of (Some x) (Some y) j) j.align in
-      (
+      let align = align_law (tables_of b) (sides_of (Some x) (Some y) j) j.align in (
         λ h. let p = parts.0 h in (p.0.0, record { needs = needs.1 p.1.0; gives = gives.1 p.1.1.0; align = align.1 p.1.1.1 }),
         λ h. let t = h.1 in parts.1 ((h.0, refl), (needs.0 t.needs, (gives.0 t.gives, align.0 t.align))),
       )
@@ -93,15 +92,15 @@ module _ (b : Bundle) where
         ↔ HasNoFault (λ pass. first_in (λ a. align_fault (tables_of b) pass (module_sides b pass (method_of_side (Some i) (Some m) a.1) (method_of_side (Some i) (Some n) a.1)) a.2) p.methods)
     aligned_law p typed left right listed =
         iff_then (matched (λ q. q.name) (λ (a : ℕ × Word × Align). a.1)
-            (λ q o. IsSomeAnd (elim o as (λ x. Option Align) [ None ↦ None | Some x ↦ Some x.2 ]) (λ a. IsSomeAnd (find_body q.name m.methods) (λ d. IsSomeAnd (find_body q.name n.methods)
-              (λ e. IsTypedAlign (tables_of b) (typed_module_sides b (method_setting i m q d) (method_setting i n q e)) a))))
-            (λ a o. HasNoFault (λ pass. align_fault (tables_of b) pass (method_sides pass (find_body a.1 m.methods) (find_body a.1 n.methods) o) a.2))
-            HasBodies
-            (λ q a same h. subst (λ x. IsSomeAnd (find_body q.name m.methods) (λ d. IsSomeAnd (find_body q.name n.methods)
-                (λ e. IsTypedAlign (tables_of b) (typed_module_sides b (method_setting i m q d) (method_setting i n q e)) a.2))
-                ↔ HasNoFault (λ pass. align_fault (tables_of b) pass (method_sides pass (find_body x m.methods) (find_body x n.methods) (Some q)) a.2)) same
-              (bodies_law q a.2 (find_body q.name m.methods) (find_body q.name n.methods) h.0 h.1))
-            i.methods p.methods (sym listed) typed.method_names (have_bodies left right i.methods left.methods right.methods))
+        (λ q o. IsSomeAnd (elim o as (λ x. Option Align) [ None ↦ None | Some x ↦ Some x.2 ]) (λ a. IsSomeAnd (find_body q.name m.methods) (λ d. IsSomeAnd (find_body q.name n.methods)
+        (λ e. IsTypedAlign (tables_of b) (typed_module_sides b (method_setting i m q d) (method_setting i n q e)) a))))
+        (λ a o. HasNoFault (λ pass. align_fault (tables_of b) pass (method_sides pass (find_body a.1 m.methods) (find_body a.1 n.methods) o) a.2))
+        HasBodies
+        (λ q a same h. subst (λ x. IsSomeAnd (find_body q.name m.methods) (λ d. IsSomeAnd (find_body q.name n.methods)
+        (λ e. IsTypedAlign (tables_of b) (typed_module_sides b (method_setting i m q d) (method_setting i n q e)) a.2))
+        ↔ HasNoFault (λ pass. align_fault (tables_of b) pass (method_sides pass (find_body x m.methods) (find_body x n.methods) (Some q)) a.2)) same
+        (bodies_law q a.2 (find_body q.name m.methods) (find_body q.name n.methods) h.0 h.1))
+        i.methods p.methods (sym listed) typed.method_names (have_bodies left right i.methods left.methods right.methods))
         (iff_back (no_fault_in_list (λ pass a. align_fault (tables_of b) pass (module_sides b pass (method_of_side (Some i) (Some m) a.1) (method_of_side (Some i) (Some n) a.1)) a.2) p.methods))
 
     -- The right module is known to be typed where its interface is that of the left.
@@ -123,23 +122,22 @@ module _ (b : Bundle) where
         let rest = no_fault_in_both coupling_fault (λ pass. first_of (init_fault pass) (method_faults pass)) in
         let aligns = no_fault_in_both init_fault method_faults in
         let coupling = rel_clause_law (tables_of b) false (globals_of (init_setting i m)) (globals_of (init_setting i n)) p.coupling in
-        let init = align_law (tables_of b) (module_sides b ForTwice (init_of_side (Some i) (Some m)) (init_of_side (Some i) (Some n))) p.init.1 in
-        (
+        let init = align_law (tables_of b) (module_sides b ForTwice (init_of_side (Some i) (Some m)) (init_of_side (Some i) (Some n))) p.init.1 in (
           λ h.
-            let x = place.0 h in
-            let r = rest.0 x.1 in
-            let a = aligns.0 r.1 in
-            let f = flaws.0 x.0 in
-            let s = split.0 (two.0 f.1).1 in
-            let same = differ.0 s.0 in
-            let l = listed.0 s.1 in
-            (f.0, record { same = same; coupling = coupling.1 r.0; init = init.1 a.0; listed = l; methods = (aligned_law p typed left (right same) l).1 a.1 }),
+              let x = place.0 h in
+              let r = rest.0 x.1 in
+              let a = aligns.0 r.1 in
+              let f = flaws.0 x.0 in
+              let s = split.0 (two.0 f.1).1 in
+              let same = differ.0 s.0 in
+              let l = listed.0 s.1 in
+              (f.0, record { same = same; coupling = coupling.1 r.0; init = init.1 a.0; listed = l; methods = (aligned_law p typed left (right same) l).1 a.1 }),
           λ h.
-            let t = h.1 in
-            place.1 (
-              flaws.1 (h.0, two.1 (refl, split.1 (differ.1 t.same, listed.1 t.listed))),
-              rest.1 (coupling.0 t.coupling, aligns.1 (init.0 t.init, (aligned_law p typed left (right t.same) t.listed).0 t.methods)),
-            ),
+              let t = h.1 in
+              place.1 (
+                flaws.1 (h.0, two.1 (refl, split.1 (differ.1 t.same, listed.1 t.listed))),
+                rest.1 (coupling.0 t.coupling, aligns.1 (init.0 t.init, (aligned_law p typed left (right t.same) t.listed).0 t.methods)),
+              ),
         )
 
 pub trial_point : true ≡ true

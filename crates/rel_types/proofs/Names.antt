@@ -1,7 +1,7 @@
 -- Lists of names: tests of them, and what the tests say.
-use Rattle.std.proofs.Common.{◌≡◌, ◌↔◌, ℕ, Bool, true, false, not, ◌||◌, ◌&&◌, if◌then◌else◌, ◌⊎◌, List, [], ◌∷◌, ◌++◌, map, Option, Some, None, refl, sym, ap, subst, ◌∙◌, inl, inr, ⊎_elim, true≢false}
+use Rattle.std.proofs.Common.{◌≡◌, ◌↔◌, Bool, true, false, not, ◌||◌, ◌&&◌, List, [], ◌∷◌, ◌++◌, refl, sym, ◌∙◌, inl, inr, ⊎_elim, true≢false}
 use Rattle.std.specs.Prelude.{bytes_eq}
-use Rattle.std.specs.List.{AllByRecursion, list_any}
+use Rattle.std.specs.List.{AllByRecursion}
 use Rattle.std.proofs.lemmas.Slice.Eq.{bytes_eq-Decides}
 use Rattle.rel_lang.specs.Syntax.{Word}
 use Rattle.rel_lang.specs.Typed.{IsAmong, AreDistinct}
@@ -30,8 +30,7 @@ apart_is_false x y = (
 pub among_is_false : (x : Word) (ys : List Word) → (is_among x ys ≡ false) ↔ ¬ (IsAmong x ys)
 among_is_false x [] = (λ e i. i, λ absent. refl)
 among_is_false x (y ∷ ys) =
-    let split = or_false (bytes_eq x y) (is_among x ys) in
-    (
+    let split = or_false (bytes_eq x y) (is_among x ys) in (
       λ e. let h = split.0 e in λ i. ⊎_elim (λ same. (apart_is_false x y).0 h.0 same) (λ later. (among_is_false x ys).0 h.1 later) i,
       λ absent. split.1 ((apart_is_false x y).1 (λ same. absent (inl same)), (among_is_false x ys).1 (λ later. absent (inr later))),
     )
@@ -61,8 +60,7 @@ apart_from_nothing (x ∷ xs) = (λ i. i, apart_from_nothing xs)
 pub apart_cons : (x : Word) (seen ys : List Word) → AreApart (x ∷ seen) ys ↔ (¬ (IsAmong x ys) × AreApart seen ys)
 apart_cons x seen [] = (λ h. (λ i. i, tt), λ h. tt)
 apart_cons x seen (y ∷ ys) =
-    let rest = apart_cons x seen ys in
-    (
+    let rest = apart_cons x seen ys in (
       λ h. let r = rest.0 h.1 in (λ i. ⊎_elim (λ here. h.0 (inl (sym here))) (λ later. r.0 later) i, (λ i. h.0 (inr i), r.1)),
       λ h. (λ i. ⊎_elim (λ here. h.0 (inl (sym here))) (λ later. h.1.0 later) i, rest.1 (λ i. h.0 (inr i), h.1.1)),
     )
@@ -76,8 +74,7 @@ apart_append [] seen ys = (λ h. (apart_from_nothing ys, h), λ h. h.1)
 apart_append (x ∷ xs) seen ys =
     let one = apart_cons x (xs ++ seen) ys in
     let two = apart_cons x xs ys in
-    let rest = apart_append xs seen ys in
-    (
+    let rest = apart_append xs seen ys in (
       λ h. let p = one.0 h in let r = rest.0 p.1 in (two.1 (p.0, r.0), r.1),
       λ h. let p = two.0 h.0 in one.1 (p.0, rest.1 (p.1, h.1)),
     )
@@ -91,8 +88,7 @@ apart_of_append seen (x ∷ xs) ys =
 among_append : (x : Word) (xs ys : List Word) → ¬ (IsAmong x (xs ++ ys)) ↔ (¬ (IsAmong x xs) × ¬ (IsAmong x ys))
 among_append x [] ys = (λ h. (λ i. i, h), λ h. h.1)
 among_append x (z ∷ xs) ys =
-    let rest = among_append x xs ys in
-    (
+    let rest = among_append x xs ys in (
       λ h. let r = rest.0 (λ i. h (inr i)) in (λ i. ⊎_elim (λ here. h (inl here)) (λ later. r.0 later) i, r.1),
       λ h i. ⊎_elim (λ here. h.0 (inl here)) (λ later. rest.1 (λ j. h.0 (inr j), h.1) later) i,
     )
@@ -102,8 +98,7 @@ distinct_append [] ys = (λ h. (tt, h, apart_from_nothing ys), λ h. h.1)
 distinct_append (x ∷ xs) ys =
     let rest = distinct_append xs ys in
     let here = among_append x xs ys in
-    let split = apart_cons x xs ys in
-    (
+    let split = apart_cons x xs ys in (
       λ h. let a = here.0 h.0 in let r = rest.0 h.1 in ((a.0, r.0), r.1, split.1 (a.1, r.2)),
       λ h. let s = split.0 h.2 in (here.1 (h.0.0, s.0), rest.1 (h.0.1, h.1, s.1)),
     )
@@ -115,8 +110,7 @@ repeats_is_false seen (x ∷ xs) =
     let split = or_false (is_among x seen) (repeats (x ∷ seen) xs) in
     let here = among_is_false x seen in
     let rest = repeats_is_false (x ∷ seen) xs in
-    let one = apart_cons x seen xs in
-    (
+    let one = apart_cons x seen xs in (
       λ e. let s = split.0 e in let r = rest.0 s.1 in let o = one.0 r.1 in ((o.0, r.0), (here.0 s.0, o.1)),
       λ h. split.1 (here.1 h.1.0, rest.1 (h.0.1, one.1 (h.0.0, h.1.1))),
     )

@@ -1,17 +1,17 @@
 -- The parts of items: types, effects, clauses and procedures.
-use Rattle.std.proofs.Common.{◌≡◌, ◌↔◌, ℕ, Bool, true, false, not, ◌||◌, List, [], ◌∷◌, ◌++◌, map, Option, Some, None, refl, sym, ap, subst, ◌∙◌, append_assoc}
-use Rattle.std.specs.List.{AllByRecursion, list_any}
-use Rattle.rel_lang.specs.Syntax.{Word, Ty, Int, Rgn, Class, Decl, Place, Effect, Global, Locations, Clause, RelClause, Spec, Body, Proc}
+use Rattle.std.proofs.Common.{◌≡◌, ◌↔◌, ℕ, Bool, true, false, not, ◌||◌, List, [], ◌∷◌, ◌++◌, Option, Some, refl, ap, subst, ◌∙◌, append_assoc}
+use Rattle.std.specs.List.{AllByRecursion}
+use Rattle.rel_lang.specs.Syntax.{Word, Ty, Int, Rgn, Class, Decl, Place, Effect, Global, Locations, Clause, RelClause, Spec, Proc}
 use Rattle.rel_lang.specs.State.{Tables, Owner, Scope, find_variable, find_field, ByCall}
 use Rattle.rel_lang.specs.Scope.{declared, Setting, result_name, result_variable, globals_of, pre_scope, post_scope, body_scope}
-use Rattle.rel_lang.specs.Typed.{IsAmong, AreDistinct, names_of, Signature, IsDeclaredType, HaveTypes, IsTypedFormula, IsTypedRel, IsTypedPlace, IsTypedEffect, AreTypedWrites, IsTypedSpec, IsTypedBody, IsTypedProc}
+use Rattle.rel_lang.specs.Typed.{AreDistinct, names_of, Signature, IsDeclaredType, HaveTypes, IsTypedFormula, IsTypedRel, IsTypedPlace, IsTypedEffect, AreTypedWrites, IsTypedProc}
 use Rattle.rel_types.specs.Flaws.{Flaws, flawless, either, Pass, ForTwice, Fault, fault_at, first_of}
-use Rattle.rel_types.specs.Inference.{is_among, is_field, is_class, names_unknown_class, have_unknown_types, flaws_of_region}
+use Rattle.rel_types.specs.Inference.{is_field, is_class, names_unknown_class, have_unknown_types, flaws_of_region}
 use Rattle.rel_types.specs.Code.{unknown_where, block_fault}
-use Rattle.rel_types.specs.Items.{repeats, declared_names, seen_by_members, flaws_of_place, flaws_of_effect, flaws_of_all, flaws_of_globals, clause_fault, rel_clause_fault, clauses_fault, flaws_of_head, proc_fault, module_body_fault}
+use Rattle.rel_types.specs.Items.{repeats, declared_names, seen_by_members, flaws_of_place, flaws_of_effect, flaws_of_all, clause_fault, rel_clause_fault, clauses_fault, flaws_of_head, proc_fault}
 use Rattle.rel_types.proofs.Clean.{IsClean, HasNoFault, or_false, no_fault_in_both, no_fault_at, clean_both}
 use Rattle.rel_types.proofs.Names.{AreApart, among_is_true, not_is_false, repeats_is_false, distinct_append, apart_cons, apart_of_append}
-use Rattle.rel_types.proofs.Equivalences.{iff_same, iff_back, iff_then, iff_both, iff_all, all_of_append, map_append, map_map, some_is_tested}
+use Rattle.rel_types.proofs.Equivalences.{iff_same, iff_back, iff_then, iff_both, iff_all, all_of_append, map_append, some_is_tested}
 use Rattle.rel_types.proofs.Formulas.{formula_law, region_law}
 use Rattle.rel_types.proofs.Relations.{rel_law}
 use Rattle.rel_types.proofs.Commands.{block_law}
@@ -46,9 +46,14 @@ names_declared o a (d ∷ ds) = ap (λ ns. d.name ∷ ns) (names_declared o a ds
 pub body_names : (g : Setting) → names_of (body_scope g) ≡ names_of (globals_of g) ++ (declared_names (g.parameters ++ g.locals) ++ names_of (result_variable g.result))
 body_names g =
     names_append (globals_of g ++ declared ByCall false g.parameters) (declared ByCall true g.locals ++ result_variable g.result)
-    ∙ rw (names_append (globals_of g) (declared ByCall false g.parameters), names_append (declared ByCall true g.locals) (result_variable g.result),
-      names_declared ByCall false g.parameters, names_declared ByCall true g.locals, map_append (λ (d : Decl). d.name) g.parameters g.locals)
-      (associated (names_of (globals_of g)) (declared_names g.parameters) (declared_names g.locals) (names_of (result_variable g.result)))
+    ∙ rw (
+      names_append (globals_of g) (declared ByCall false g.parameters),
+      names_append (declared ByCall true g.locals) (result_variable g.result),
+      names_declared ByCall false g.parameters,
+      names_declared ByCall true g.locals,
+      map_append (λ (d : Decl). d.name) g.parameters g.locals,
+    )
+    (associated (names_of (globals_of g)) (declared_names g.parameters) (declared_names g.locals) (names_of (result_variable g.result)))
   where
     associated : (a b c d : List Word) → (a ++ b) ++ (c ++ d) ≡ a ++ ((b ++ c) ++ d)
     associated a b c d = simp append_assoc
@@ -59,8 +64,7 @@ with_result r before own premise =
     let whole = distinct_append before (own ++ r ∷ []) in
     let inner = distinct_append own (r ∷ []) in
     let split = apart_of_append before own (r ∷ []) in
-    let seen = apart_cons r before own in
-    (
+    let seen = apart_cons r before own in (
       λ h. let w = whole.0 h in let i = inner.0 w.1 in let s = split.0 w.2 in (i.0, seen.1 (i.2.0, s.0)),
       λ h. let s = seen.0 h.1 in whole.1 (premise.1, inner.1 (h.0, (λ i. i, tt), (s.0, tt)), split.1 (s.1, (premise.0, tt))),
     )
@@ -146,15 +150,14 @@ module _ (tables : Tables) where
       let types = or_false (have_unknown_types tables (g.parameters ++ g.locals)) (names_unknown_class tables result) in
       let declared = types_append g.parameters g.locals in
       let given = type_law result in
-      let written = effects_law (globals_of g) (pre_scope g) writes in
-      (
+      let written = effects_law (globals_of g) (pre_scope g) writes in (
         λ h. both.1 (two.1 (h.names, types.1 (declared.0 (h.params, h.locals), given.0 h.result)), written.0 h.writes),
         λ c.
-          let b = both.0 c in
-          let t = two.0 b.0 in
-          let u = types.0 t.1 in
-          let d = declared.1 u.0 in
-          record { names = t.0; params = d.0; locals = d.1; result = given.1 u.1; writes = written.1 b.1 },
+            let b = both.0 c in
+            let t = two.0 b.0 in
+            let u = types.0 t.1 in
+            let d = declared.1 u.0 in
+            record { names = t.0; params = d.0; locals = d.1; result = given.1 u.1; writes = written.1 b.1 },
       )
 
   -- ---- procedures
@@ -168,28 +171,30 @@ module _ (tables : Tables) where
       let g = setting_of_proc interface own q in
       let names = body_with_result g q.result refl premise in
       let place = at_first q.at (either more (flaws_of_head tables ForTwice g q.spec.writes q.result))
-          (λ pass. first_of (clauses_fault tables pass g q.spec) (block_fault tables pass (record { scope = body_scope g; callees = callees; may_call = true }) q.body.commands)) in
+      (λ pass. first_of (clauses_fault tables pass g q.spec) (block_fault tables pass (record { scope = body_scope g; callees = callees; may_call = true }) q.body.commands)) in
       let rest = no_fault_in_both (λ pass. clauses_fault tables pass g q.spec) (λ pass. block_fault tables pass (record { scope = body_scope g; callees = callees; may_call = true }) q.body.commands) in
       let flaws = clean_both more (flaws_of_head tables ForTwice g q.spec.writes q.result) in
       let head = head_law ForTwice g q.spec.writes q.result in
       let clauses = clauses_law g q.spec in
-      let commands = block_law tables (record { scope = body_scope g; callees = callees; may_call = true }) q.body.commands in
-      (
+      let commands = block_law tables (record { scope = body_scope g; callees = callees; may_call = true }) q.body.commands in (
         λ h.
-          let p = place.0 h in
-          let r = rest.0 p.1 in
-          let f = flaws.0 p.0 in
-          let t = head.1 f.1 in
-          let c = clauses.1 r.0 in
-          (f.0, record {
-            params = t.params; result = t.result;
-            spec = record { needs = c.0; gives = c.1; writes = t.writes };
-            body = record { names = names.1 t.names; locals = t.locals; commands = commands.1 r.1 };
-          }),
+            let p = place.0 h in
+            let r = rest.0 p.1 in
+            let f = flaws.0 p.0 in
+            let t = head.1 f.1 in
+            let c = clauses.1 r.0 in (
+              f.0,
+              record {
+                params = t.params;
+                result = t.result;
+                spec = record { needs = c.0; gives = c.1; writes = t.writes };
+                body = record { names = names.1 t.names; locals = t.locals; commands = commands.1 r.1 };
+              },
+            ),
         λ h.
-          let t = h.1 in
-          place.1 (
-            flaws.1 (h.0, head.0 (record { names = names.0 t.body.names; params = t.params; locals = t.body.locals; result = t.result; writes = t.spec.writes })),
-            rest.1 (clauses.0 (t.spec.needs, t.spec.gives), commands.0 t.body.commands),
-          ),
+            let t = h.1 in
+            place.1 (
+              flaws.1 (h.0, head.0 (record { names = names.0 t.body.names; params = t.params; locals = t.body.locals; result = t.result; writes = t.spec.writes })),
+              rest.1 (clauses.0 (t.spec.needs, t.spec.gives), commands.0 t.body.commands),
+            ),
       )
