@@ -1,9 +1,9 @@
 -- When there is no flaw, and no fault.
-use Rattle.std.proofs.Common.{◌≡◌, ℕ, Bool, true, false, ◌||◌, ◌↔◌, List, [], ◌∷◌, Option, Some, None, refl, ap, ◌∙◌}
+use Rattle.std.proofs.Common.{◌≡◌, ℕ, Bool, true, false, ◌||◌, ◌↔◌, if◌then◌else◌, List, [], ◌∷◌, Option, Some, None, refl, ap, ◌∙◌}
 use Rattle.std.proofs.lemmas.Bool.{or_parts, or_from}
 use Rattle.std.specs.List.{AllByRecursion}
-use Rattle.rel_types.proofs.Equivalences.{iff_then}
-use Rattle.rel_types.specs.Flaws.{Flaws, flawless, either, Pass, ForTwice, ForOthers, Fault, fault_at, first_of, first_in}
+use Rattle.rel_types.proofs.Equivalences.{iff_same, iff_then, iff_both}
+use Rattle.rel_types.specs.Flaws.{Kind, Fault, Flaws, flawless, either, Pass, ForTwice, ForOthers, at_place, fault_at, first_of, first_in}
 
 pub or_false : (a b : Bool) → ((a || b) ≡ false) ↔ ((a ≡ false) × (b ≡ false))
 or_false a b = (λ h. or_parts a b h, λ h. or_from a b h.0 h.1)
@@ -13,10 +13,6 @@ or_false a b = (λ h. or_parts a b h, λ h. or_from a b h.0 h.1)
 -- no flaw at all
 abbrev pub IsClean : Flaws → Type 0
 IsClean f = f ≡ flawless
-
-clean_of : (a b c d e f g h i j : Bool) → a ≡ false → b ≡ false → c ≡ false → d ≡ false → e ≡ false → f ≡ false → g ≡ false → h ≡ false → i ≡ false → j ≡ false
-    → IsClean (record { twice = a; unknown = b; missing = c; no_main = d; not_visible = e; wrong_arity = f; target = g; old_here = h; not_code = i; wrong_type = j })
-clean_of a b c d e f g h i j ea eb ec ed ee ef eg eh ei ej = rw (ea, eb, ec, ed, ee, ef, eg, eh, ei, ej) refl
 
 -- each flaw is absent
 pub record AreAbsent (f : Flaws) : Type 0 where
@@ -46,7 +42,7 @@ clean_parts f e = record {
 }
 
 pub clean_whole : (f : Flaws) → AreAbsent f → IsClean f
-clean_whole f a = clean_of f.twice f.unknown f.missing f.no_main f.not_visible f.wrong_arity f.target f.old_here f.not_code f.wrong_type a.twice a.unknown a.missing a.no_main a.not_visible a.wrong_arity a.target a.old_here a.not_code a.wrong_type
+clean_whole f a = rw (a.twice, a.unknown, a.missing, a.no_main, a.not_visible, a.wrong_arity, a.target, a.old_here, a.not_code, a.wrong_type) refl
 
 pub clean_both : (f g : Flaws) → IsClean (either f g) ↔ (IsClean f × IsClean g)
 clean_both f g = (
@@ -86,27 +82,38 @@ clean_both f g = (
 abbrev pub HasNoFault : (Pass → Option Fault) → Type 0
 HasNoFault fault = (fault ForTwice ≡ None) × (fault ForOthers ≡ None)
 
-no_fault : (at : ℕ) (a b c d e f g h i j : Bool)
-    → fault_at ForTwice at (record { twice = a; unknown = b; missing = c; no_main = d; not_visible = e; wrong_arity = f; target = g; old_here = h; not_code = i; wrong_type = j }) ≡ None
-    → fault_at ForOthers at (record { twice = a; unknown = b; missing = c; no_main = d; not_visible = e; wrong_arity = f; target = g; old_here = h; not_code = i; wrong_type = j }) ≡ None
-    → IsClean (record { twice = a; unknown = b; missing = c; no_main = d; not_visible = e; wrong_arity = f; target = g; old_here = h; not_code = i; wrong_type = j })
-no_fault at true b c d e f g h i j x y = absurd cc
-no_fault at false true c d e f g h i j x y = absurd cc
-no_fault at false false true d e f g h i j x y = absurd cc
-no_fault at false false false true e f g h i j x y = absurd cc
-no_fault at false false false false true f g h i j x y = absurd cc
-no_fault at false false false false false true g h i j x y = absurd cc
-no_fault at false false false false false false true h i j x y = absurd cc
-no_fault at false false false false false false false true i j x y = absurd cc
-no_fault at false false false false false false false false true j x y = absurd cc
-no_fault at false false false false false false false false false true x y = absurd cc
-no_fault at false false false false false false false false false false x y = refl
+-- a kind that decides where a flaw is present, and else the next
+next_kind : (at : ℕ) (flaw : Bool) (k : Kind) (o : Option Kind) → at_place at (if flaw then Some k else o) ≡ None → (flaw ≡ false) × (at_place at o ≡ None)
+next_kind at true k o h = absurd cc
+next_kind at false k o h = (refl, h)
+
+absent : (at : ℕ) (f : Flaws) → HasNoFault (λ pass. fault_at pass at f) → AreAbsent f
+absent at f h =
+    let twice = next_kind at f.twice _ _ h.0 in
+    let unknown = next_kind at f.unknown _ _ h.1 in
+    let missing = next_kind at f.missing _ _ unknown.1 in
+    let no_main = next_kind at f.no_main _ _ missing.1 in
+    let not_visible = next_kind at f.not_visible _ _ no_main.1 in
+    let wrong_arity = next_kind at f.wrong_arity _ _ not_visible.1 in
+    let target = next_kind at f.target _ _ wrong_arity.1 in
+    let old_here = next_kind at f.old_here _ _ target.1 in
+    let not_code = next_kind at f.not_code _ _ old_here.1 in
+    let wrong_type = next_kind at f.wrong_type _ _ not_code.1 in
+    record {
+      twice = twice.0;
+      unknown = unknown.0;
+      missing = missing.0;
+      no_main = no_main.0;
+      not_visible = not_visible.0;
+      wrong_arity = wrong_arity.0;
+      target = target.0;
+      old_here = old_here.0;
+      not_code = not_code.0;
+      wrong_type = wrong_type.0;
+    }
 
 pub no_fault_at : (at : ℕ) (f : Flaws) → HasNoFault (λ pass. fault_at pass at f) ↔ IsClean f
-no_fault_at at f = (
-  λ h. no_fault at f.twice f.unknown f.missing f.no_main f.not_visible f.wrong_arity f.target f.old_here f.not_code f.wrong_type h.0 h.1,
-  λ h. (ap (λ g. fault_at ForTwice at g) h, ap (λ g. fault_at ForOthers at g) h),
-)
+no_fault_at at f = (λ h. clean_whole f (absent at f h), λ h. (ap (λ g. fault_at ForTwice at g) h, ap (λ g. fault_at ForOthers at g) h))
 
 pub first_none : (a b : Option Fault) → (first_of a b ≡ None) ↔ ((a ≡ None) × (b ≡ None))
 first_none None b = (λ h. (refl, h), λ h. h.1)
@@ -123,4 +130,4 @@ no_fault_in_both a b = (
 
 pub no_fault_in_list : {X : Type 0} (fault : Pass → X → Option Fault) (xs : List X) → HasNoFault (λ pass. first_in (fault pass) xs) ↔ AllByRecursion (λ x. HasNoFault (λ pass. fault pass x)) xs
 no_fault_in_list fault [] = (λ h. tt, λ h. (refl, refl))
-no_fault_in_list fault (x ∷ xs) = iff_then (no_fault_in_both (λ pass. fault pass x) (λ pass. first_in (fault pass) xs)) ((λ h. (h.0, (no_fault_in_list fault xs).0 h.1)), (λ h. (h.0, (no_fault_in_list fault xs).1 h.1)))
+no_fault_in_list fault (x ∷ xs) = iff_then (no_fault_in_both (λ pass. fault pass x) (λ pass. first_in (fault pass) xs)) (iff_both iff_same (no_fault_in_list fault xs))
