@@ -15,31 +15,22 @@ iff_then e f = (λ a. f.0 (e.0 a), λ c. e.1 (f.1 c))
 pub iff_both : {A B C D : Type 0} → A ↔ C → B ↔ D → (A × B) ↔ (C × D)
 iff_both e f = (λ h. (e.0 h.0, f.0 h.1), λ h. (e.1 h.0, f.1 h.1))
 
+pub iff_along : {X : Type 0} (P : X → Type 0) (x y : X) → x ≡ y → P x ↔ P y
+iff_along P x y e = (λ h. subst P e h, λ h. subst P (sym e) h)
+
 pub iff_all : {X : Type 0} (P Q : X → Type 0) → ((x : X) → P x ↔ Q x) → (xs : List X) → AllByRecursion P xs ↔ AllByRecursion Q xs
 iff_all P Q each [] = (λ h. tt, λ h. tt)
 iff_all P Q each (x ∷ xs) = let rest = iff_all P Q each xs in (λ h. ((each x).0 h.0, rest.0 h.1), λ h. ((each x).1 h.0, rest.1 h.1))
+
+-- ---- lists
 
 pub all_of_append : {X : Type 0} (P : X → Type 0) (xs ys : List X) → AllByRecursion P (xs ++ ys) ↔ (AllByRecursion P xs × AllByRecursion P ys)
 all_of_append P [] ys = (λ h. (tt, h), λ h. h.1)
 all_of_append P (x ∷ xs) ys = let rest = all_of_append P xs ys in (λ h. let r = rest.0 h.1 in ((h.0, r.0), r.1), λ h. (h.0.0, rest.1 (h.0.1, h.1)))
 
-pub map_append : {A B : Type 0} (f : A → B) (xs ys : List A) → map f (xs ++ ys) ≡ map f xs ++ map f ys
-map_append f [] ys = refl
-map_append f (x ∷ xs) ys = ap (λ r. f x ∷ r) (map_append f xs ys)
-
 pub map_map : {A B C : Type 0} (g : B → C) (f : A → B) (xs : List A) → map g (map f xs) ≡ map (λ x. g (f x)) xs
 map_map g f [] = refl
 map_map g f (x ∷ xs) = ap (λ r. g (f x) ∷ r) (map_map g f xs)
-
--- ---- options
-
-pub some_is_tested : {A : Type 0} (o : Option A) → IsSome o ↔ (not (is_some o) ≡ false)
-some_is_tested None = (λ h. absurd (true≢false (sym h)), λ e. absurd (true≢false e))
-some_is_tested (Some a) = (λ h. refl, λ e. refl)
-
-pub append_nothing : {A : Type 0} (xs : List A) → xs ++ [] ≡ xs
-append_nothing [] = refl
-append_nothing (x ∷ xs) = ap (λ r. x ∷ r) (append_nothing xs)
 
 pub all_both : {X : Type 0} (P Q : X → Type 0) (xs : List X) → AllByRecursion (λ x. P x × Q x) xs ↔ (AllByRecursion P xs × AllByRecursion Q xs)
 all_both P Q [] = (λ h. (tt, tt), λ h. tt)
@@ -53,12 +44,11 @@ pub all_everywhere : {X : Type 0} (P : X → Type 0) → ((x : X) → P x) → (
 all_everywhere P each [] = tt
 all_everywhere P each (x ∷ xs) = (each x, all_everywhere P each xs)
 
-pub iff_along : {X : Type 0} (P : X → Type 0) (x y : X) → x ≡ y → P x ↔ P y
-iff_along P x y e = (λ h. subst P e h, λ h. subst P (sym e) h)
+-- ---- options
 
-pub all_weaker : {X : Type 0} (P Q : X → Type 0) → ((x : X) → P x → Q x) → (xs : List X) → AllByRecursion P xs → AllByRecursion Q xs
-all_weaker P Q each [] h = tt
-all_weaker P Q each (x ∷ xs) h = (each x h.0, all_weaker P Q each xs h.1)
+pub some_is_tested : {A : Type 0} (o : Option A) → IsSome o ↔ (not (is_some o) ≡ false)
+some_is_tested None = (λ h. absurd (true≢false (sym h)), λ e. absurd (true≢false e))
+some_is_tested (Some a) = (λ h. refl, λ e. refl)
 
 pub some_weaker : {A : Type 0} (P Q : A → Type 0) → ((a : A) → P a → Q a) → (o : Option A) → IsSomeAnd o P → IsSomeAnd o Q
 some_weaker P Q each None h = absurd h

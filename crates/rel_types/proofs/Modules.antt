@@ -2,6 +2,7 @@
 use Rattle.std.proofs.Common.{◌≡◌, ◌↔◌, Bool, true, false, List, [], ◌∷◌, ◌++◌, map, Some, None, IsSomeAnd, refl, sym, ap, subst, ◌∙◌}
 use Rattle.std.specs.Prelude.{is_none, option_map}
 use Rattle.std.specs.List.{AllByRecursion}
+use Rattle.std.proofs.lemmas.List.{append-nil}
 use Rattle.rel_lang.specs.Syntax.{Word, Ty, Body, Interface, Module}
 use Rattle.rel_lang.specs.State.{Tables, ByModule}
 use Rattle.rel_lang.specs.Scope.{Setting, result_name, result_variable, interface_globals, module_globals, globals_of, body_scope, init_setting, method_setting}
@@ -13,7 +14,7 @@ use Rattle.rel_types.specs.Code.{block_fault}
 use Rattle.rel_types.specs.Items.{repeats, declared_names, seen_by_members, flaws_of_globals, clause_fault, module_body_fault, setting_in_module, init_in_module, method_in_module, signatures_of, misses_methods, module_fault}
 use Rattle.rel_types.proofs.Clean.{IsClean, HasNoFault, no_fault_in_both, no_fault_in_list, clean_both}
 use Rattle.rel_types.proofs.Names.{same_names_are_same, distinct_append}
-use Rattle.rel_types.proofs.Equivalences.{iff_same, iff_back, iff_then, iff_both, all_everywhere, append_nothing}
+use Rattle.rel_types.proofs.Equivalences.{iff_same, iff_back, iff_then, iff_both, all_everywhere}
 use Rattle.rel_types.proofs.Commands.{block_law}
 use Rattle.rel_types.proofs.Procedures.{at_first, twice_unknown_clean, names_append, names_declared, body_names, body_with_result, types_law, clause_law}
 use Rattle.rel_types.proofs.Units.{behind, globals_law}
@@ -26,7 +27,7 @@ unknown_missing_clean u m = (λ e. (ap (λ f. f.unknown) e, ap (λ f. f.missing)
 names_without_result : (g : Setting) → g.result ≡ None → names_of (body_scope g) ≡ names_of (globals_of g) ++ declared_names (g.parameters ++ g.locals)
 names_without_result g none =
     body_names g ∙ ap (λ r. names_of (globals_of g) ++ (declared_names (g.parameters ++ g.locals) ++ names_of (result_variable r))) none
-    ∙ ap (λ ns. names_of (globals_of g) ++ ns) (append_nothing (declared_names (g.parameters ++ g.locals)))
+    ∙ ap (λ ns. names_of (globals_of g) ++ ns) (append-nil (declared_names (g.parameters ++ g.locals)))
 
 -- the names of a module's globals behind those of its interface
 pub module_names : (i : Interface) (m : Module) → names_of (interface_globals i ++ module_globals m) ≡ names_of (interface_globals i) ++ declared_names m.globals

@@ -2,6 +2,7 @@
 use Rattle.std.proofs.Common.{◌≡◌, ◌↔◌, Bool, true, false, not, ◌||◌, ◌&&◌, List, [], ◌∷◌, ◌++◌, refl, sym, ◌∙◌, inl, inr, ⊎_elim, true≢false}
 use Rattle.std.specs.Prelude.{bytes_eq}
 use Rattle.std.specs.List.{AllByRecursion}
+use Rattle.std.proofs.lemmas.Bool.{false_from_ne_true, not-false, not_from_true}
 use Rattle.std.proofs.lemmas.Slice.Eq.{bytes_eq-Decides}
 use Rattle.rel_lang.specs.Syntax.{Word}
 use Rattle.rel_lang.specs.Typed.{IsAmong, AreDistinct}
@@ -17,14 +18,10 @@ same_from_true x y e = (bytes_eq-Decides x y).0 e
 pub true_from_same : (x y : Word) → x ≡ y → bytes_eq x y ≡ true
 true_from_same x y e = (bytes_eq-Decides x y).1 e
 
-false_or_true : (b : Bool) → (b ≡ true → ⊥) → b ≡ false
-false_or_true true differs = absurd (differs refl)
-false_or_true false differs = refl
-
 pub apart_is_false : (x y : Word) → (bytes_eq x y ≡ false) ↔ ¬ (x ≡ y)
 apart_is_false x y = (
   λ e same. true≢false (sym (true_from_same x y same) ∙ e),
-  λ differs. false_or_true (bytes_eq x y) (λ e. differs (same_from_true x y e)),
+  λ differs. false_from_ne_true (bytes_eq x y) (λ e. differs (same_from_true x y e)),
 )
 
 pub among_is_false : (x : Word) (ys : List Word) → (is_among x ys ≡ false) ↔ ¬ (IsAmong x ys)
@@ -34,18 +31,6 @@ among_is_false x (y ∷ ys) =
       λ e. let h = split.0 e in λ i. ⊎_elim (λ same. (apart_is_false x y).0 h.0 same) (λ later. (among_is_false x ys).0 h.1 later) i,
       λ absent. split.1 ((apart_is_false x y).1 (λ same. absent (inl same)), (among_is_false x ys).1 (λ later. absent (inr later))),
     )
-
-pub among_is_true : (x : Word) (ys : List Word) → (is_among x ys ≡ true) ↔ IsAmong x ys
-among_is_true x [] = (λ e. true≢false (sym e), λ i. absurd i)
-among_is_true x (y ∷ ys) = let rest = among_is_true x ys in (from rest.0 (bytes_eq x y) refl, to rest.1 (bytes_eq x y) refl)
-  where
-    from : (is_among x ys ≡ true → IsAmong x ys) → (b : Bool) → bytes_eq x y ≡ b → (b || is_among x ys) ≡ true → IsAmong x (y ∷ ys)
-    from later true same e = inl (same_from_true x y same)
-    from later false other e = inr (later e)
-
-    to : (IsAmong x ys → is_among x ys ≡ true) → (b : Bool) → bytes_eq x y ≡ b → IsAmong x (y ∷ ys) → (b || is_among x ys) ≡ true
-    to later true same i = refl
-    to later false other i = ⊎_elim (λ here. absurd ((apart_is_false x y).0 other here)) later i
 
 -- ---- lists apart
 
@@ -130,5 +115,4 @@ same_names_are_same (x ∷ xs) (y ∷ ys) = let rest = same_names_are_same xs ys
 
 -- a test that is not true
 pub not_is_false : (b : Bool) → (not b ≡ false) ↔ (b ≡ true)
-not_is_false true = (λ e. refl, λ e. refl)
-not_is_false false = (λ e. absurd (true≢false e), λ e. absurd (true≢false (sym e)))
+not_is_false b = (λ e. not-false b e, λ e. not_from_true b e)

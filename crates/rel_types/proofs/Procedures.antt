@@ -1,6 +1,7 @@
 -- The parts of items: types, effects, clauses and procedures.
 use Rattle.std.proofs.Common.{◌≡◌, ◌↔◌, ℕ, Bool, true, false, not, ◌||◌, List, [], ◌∷◌, ◌++◌, Option, Some, refl, ap, subst, ◌∙◌, append_assoc}
 use Rattle.std.specs.List.{AllByRecursion}
+use Rattle.std.proofs.lemmas.List.{map-append}
 use Rattle.rel_lang.specs.Syntax.{Word, Ty, Int, Rgn, Class, Decl, Place, Effect, Global, Locations, Clause, RelClause, Spec, Proc}
 use Rattle.rel_lang.specs.State.{Tables, Owner, Scope, find_variable, find_field, ByCall}
 use Rattle.rel_lang.specs.Scope.{declared, Setting, result_name, result_variable, globals_of, pre_scope, post_scope, body_scope}
@@ -10,8 +11,9 @@ use Rattle.rel_types.specs.Inference.{is_field, is_class, names_unknown_class, h
 use Rattle.rel_types.specs.Code.{unknown_where, block_fault}
 use Rattle.rel_types.specs.Items.{repeats, declared_names, seen_by_members, flaws_of_place, flaws_of_effect, flaws_of_all, clause_fault, rel_clause_fault, clauses_fault, flaws_of_head, proc_fault}
 use Rattle.rel_types.proofs.Clean.{IsClean, HasNoFault, or_false, no_fault_in_both, no_fault_at, clean_both}
-use Rattle.rel_types.proofs.Names.{AreApart, among_is_true, not_is_false, repeats_is_false, distinct_append, apart_cons, apart_of_append}
-use Rattle.rel_types.proofs.Equivalences.{iff_same, iff_back, iff_then, iff_both, iff_all, all_of_append, map_append, some_is_tested}
+use Rattle.rel_types.proofs.Names.{AreApart, not_is_false, repeats_is_false, distinct_append, apart_cons, apart_of_append}
+use Rattle.rel_types.proofs.Equivalences.{iff_same, iff_back, iff_then, iff_both, iff_all, all_of_append, some_is_tested}
+use Rattle.rel_types.proofs.Expressions.{among_law}
 use Rattle.rel_types.proofs.Formulas.{formula_law, region_law}
 use Rattle.rel_types.proofs.Relations.{rel_law}
 use Rattle.rel_types.proofs.Commands.{block_law}
@@ -36,7 +38,7 @@ clean_all tables flaws (x ∷ xs) = iff_then (clean_both (flaws x) (flaws_of_all
 -- ---- names in scope
 
 pub names_append : (vs ws : Scope) → names_of (vs ++ ws) ≡ names_of vs ++ names_of ws
-names_append vs ws = map_append (λ v. v.name) vs ws
+names_append vs ws = map-append (λ v. v.name) vs ws
 
 pub names_declared : (o : Owner) (a : Bool) (ds : List Decl) → names_of (declared o a ds) ≡ declared_names ds
 names_declared o a [] = refl
@@ -51,14 +53,14 @@ body_names g =
       names_append (declared ByCall true g.locals) (result_variable g.result),
       names_declared ByCall false g.parameters,
       names_declared ByCall true g.locals,
-      map_append (λ (d : Decl). d.name) g.parameters g.locals,
+      map-append (λ (d : Decl). d.name) g.parameters g.locals,
     )
     (associated (names_of (globals_of g)) (declared_names g.parameters) (declared_names g.locals) (names_of (result_variable g.result)))
   where
     associated : (a b c d : List Word) → (a ++ b) ++ (c ++ d) ≡ a ++ ((b ++ c) ++ d)
     associated a b c d = simp append_assoc
 
--- Where no two globals have one name and none is `result`: the names of a body with a result, and of one with none.
+-- the names of a body with a result, where no two globals have one name and none is `result`
 with_result : (r : Word) (before own : List Word) → AreDistinct (r ∷ before) → AreDistinct (before ++ (own ++ r ∷ [])) ↔ (AreDistinct own × AreApart (r ∷ before) own)
 with_result r before own premise =
     let whole = distinct_append before (own ++ r ∷ []) in
@@ -68,13 +70,6 @@ with_result r before own premise =
       λ h. let w = whole.0 h in let i = inner.0 w.1 in let s = split.0 w.2 in (i.0, seen.1 (i.2.0, s.0)),
       λ h. let s = seen.0 h.1 in whole.1 (premise.1, inner.1 (h.0, (λ i. i, tt), (s.0, tt)), split.1 (s.1, (premise.0, tt))),
     )
-
-pub without_result : (r : Word) (before own : List Word) → AreDistinct (r ∷ before) → AreDistinct (before ++ (own ++ [])) ↔ (AreDistinct own × AreApart before own)
-without_result r before own premise = rw (append_nothing own) (iff_then (distinct_append before own) (λ h. (h.1, h.2), λ h. (premise.1, h.0, h.1)))
-  where
-    append_nothing : (ws : List Word) → ws ++ [] ≡ ws
-    append_nothing [] = refl
-    append_nothing (w ∷ ws) = ap (λ r. w ∷ r) (append_nothing ws)
 
 -- a body with a result, behind globals of different names
 pub body_with_result : (g : Setting) (t : Ty) → g.result ≡ Some t → AreDistinct (result_name ∷ names_of (globals_of g))
@@ -90,7 +85,7 @@ module _ (tables : Tables) where
   pub type_law : (t : Ty) → IsDeclaredType tables t ↔ (names_unknown_class tables t ≡ false)
   type_law Int = (λ h. refl, λ e. tt)
   type_law Rgn = (λ h. refl, λ e. tt)
-  type_law (Class c) = iff_back (iff_then (not_is_false (is_class tables c)) (among_is_true c tables.classes))
+  type_law (Class c) = iff_then (among_law c tables.classes) (iff_back (not_is_false (is_class tables c)))
 
   pub types_law : (ds : List Decl) → HaveTypes tables ds ↔ (have_unknown_types tables ds ≡ false)
   types_law [] = (λ h. refl, λ e. tt)

@@ -1,6 +1,7 @@
 -- Classes, interfaces and units.
 use Rattle.std.proofs.Common.{◌≡◌, ◌↔◌, Bool, true, false, List, [], ◌∷◌, ◌++◌, map, Option, refl, sym, ap, subst}
 use Rattle.std.specs.List.{AllByRecursion}
+use Rattle.std.proofs.lemmas.List.{append-nil}
 use Rattle.rel_lang.specs.Syntax.{Word, Decl, Proc, Sig, ClassItem, Interface, UnitItem}
 use Rattle.rel_lang.specs.State.{Tables, Scope, ByInterface, ByUnit}
 use Rattle.rel_lang.specs.Scope.{result_name, interface_globals, unit_globals, globals_of, unit_setting, signature_setting}
@@ -10,7 +11,7 @@ use Rattle.rel_types.specs.Inference.{is_among, have_unknown_types}
 use Rattle.rel_types.specs.Items.{repeats, declared_names, seen_by_members, twice_where, first_named, flaws_of_place, flaws_of_effect, flaws_of_all, flaws_of_globals, clause_fault, clauses_fault, flaws_of_head, proc_fault, class_fault, method_fault, interface_fault, unit_fault}
 use Rattle.rel_types.proofs.Clean.{IsClean, HasNoFault, no_fault_in_both, no_fault_at, clean_both}
 use Rattle.rel_types.proofs.Names.{AreApart, apart_from_nothing, apart_cons, among_is_false, repeats_is_false, distinct_append}
-use Rattle.rel_types.proofs.Equivalences.{iff_same, iff_back, iff_then, iff_both, append_nothing}
+use Rattle.rel_types.proofs.Equivalences.{iff_same, iff_back, iff_then, iff_both}
 use Rattle.rel_types.proofs.Procedures.{at_first, twice_unknown_clean, names_declared, body_with_result, types_law, places_law, effects_law, clause_law, clauses_law, head_law, proc_law}
 
 pub twice_clean : (t : Bool) → IsClean (twice_where t) ↔ (t ≡ false)
@@ -67,7 +68,7 @@ module _ (tables : Tables) where
       → HasNoFault (λ pass. method_fault tables pass i seen q) ↔ ((is_among q.name seen ≡ false) × IsTypedMethod tables i q)
   method_law i distinct seen q =
       let g = signature_setting i q in
-      let premise : AreDistinct (result_name ∷ names_of (globals_of g)) = subst (λ sc. AreDistinct (result_name ∷ names_of sc)) (sym (append_nothing (interface_globals i))) distinct in
+      let premise : AreDistinct (result_name ∷ names_of (globals_of g)) = subst (λ sc. AreDistinct (result_name ∷ names_of sc)) (sym (append-nil (interface_globals i))) distinct in
       let names = body_with_result g q.result refl premise in
       let place = at_first q.at (either (twice_where (is_among q.name seen)) (flaws_of_head tables ForTwice g q.spec.writes q.result)) (λ pass. clauses_fault tables pass g q.spec) in
       let flaws = clean_both (twice_where (is_among q.name seen)) (flaws_of_head tables ForTwice g q.spec.writes q.result) in
