@@ -2,6 +2,7 @@
 use Rattle.std.proofs.Common.{◌≡◌, ◌↔◌, ℕ, Bool, true, false, ◌||◌, if◌then◌else◌, List, [], ◌∷◌, ◌++◌, map, Option, Some, None, IsSomeAnd, IfSome, refl, sym, ap, subst, ◌∙◌, true≢false}
 use Rattle.std.specs.Prelude.{bytes_eq, is_none}
 use Rattle.std.specs.List.{AllByRecursion}
+use Rattle.std.proofs.lemmas.Simd.{map-map}
 use Rattle.std.proofs.lemmas.List.{map-append}
 use Rattle.rel_lang.specs.Syntax.{Word, Decl, Proc, Interface, Module, Client, ModulePair, Item, OfClass, OfInterface, OfModule, OfUnit, OfClient, OfJudgement, OfPair, Bundle}
 use Rattle.rel_lang.specs.State.{ClassField, tables_of, class_items, fields_of, find_named}
@@ -15,7 +16,7 @@ use Rattle.rel_types.specs.Items.{repeats, declared_names, twice_where, globals_
 use Rattle.rel_types.specs.Laws.{TypedHaveNoFault}
 use Rattle.rel_types.proofs.Clean.{IsClean, HasNoFault, or_false, first_none, no_fault_in_both, clean_both}
 use Rattle.rel_types.proofs.Names.{AreApart, apart_from_nothing, apart_cons, apart_append, apart_of_append, among_is_false, same_from_true, distinct_append, repeats_is_false}
-use Rattle.rel_types.proofs.Equivalences.{iff_same, iff_then, iff_both, iff_all, map_map}
+use Rattle.rel_types.proofs.Equivalences.{iff_same, iff_then, iff_both, iff_all}
 use Rattle.rel_types.proofs.Procedures.{at_first}
 use Rattle.rel_types.proofs.Units.{twice_clean, class_law, interface_law, unit_law}
 use Rattle.rel_types.proofs.Modules.{module_law}
@@ -68,7 +69,7 @@ field_names : (is : List Item) → map (λ (d : ClassField). d.name) (fields_of 
 field_names [] = refl
 field_names (OfClass c ∷ is) =
     map-append (λ (d : ClassField). d.name) (map (λ (d : Decl). record { name = d.name; class = c.name; ty = d.ty }) c.fields) (fields_of (class_items is))
-    ∙ ap (λ ns. ns ++ map (λ (d : ClassField). d.name) (fields_of (class_items is))) (map_map (λ (d : ClassField). d.name) (λ (d : Decl). record { name = d.name; class = c.name; ty = d.ty }) c.fields)
+    ∙ ap (λ ns. ns ++ map (λ (d : ClassField). d.name) (fields_of (class_items is))) (map-map (λ (d : ClassField). d.name) (λ (d : Decl). record { name = d.name; class = c.name; ty = d.ty }) c.fields)
     ∙ ap (λ ns. declared_names c.fields ++ ns) (field_names is)
 field_names (OfInterface i ∷ is) = field_names is
 field_names (OfModule m ∷ is) = field_names is

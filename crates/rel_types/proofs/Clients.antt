@@ -2,6 +2,7 @@
 use Rattle.std.proofs.Common.{◌≡◌, ◌↔◌, Bool, true, false, not, ◌||◌, ◌&&◌, if◌then◌else◌, List, [], ◌∷◌, ◌++◌, map, Some, IsSomeAnd, refl, sym, ap, subst, ◌∙◌, inl, inr, true≢false}
 use Rattle.std.specs.Prelude.{bytes_eq, is_none}
 use Rattle.std.specs.List.{AllByRecursion}
+use Rattle.std.proofs.lemmas.Simd.{map-map}
 use Rattle.std.proofs.lemmas.List.{map-append}
 use Rattle.rel_lang.specs.Syntax.{Word, Decl, Proc, Sig, Interface, Client}
 use Rattle.rel_lang.specs.State.{Tables, ByClient, find_named}
@@ -13,7 +14,7 @@ use Rattle.rel_types.specs.Inference.{is_among}
 use Rattle.rel_types.specs.Items.{declared_names, first_named, flaws_of_globals, proc_fault, is_empty, flaws_of_client_proc, setting_in_client, callees_in_client, client_fault}
 use Rattle.rel_types.proofs.Clean.{IsClean, HasNoFault, or_false, clean_both}
 use Rattle.rel_types.proofs.Names.{apart_from_nothing, apart_turned, apart_is_false, among_is_false, same_from_true, true_from_same, distinct_append}
-use Rattle.rel_types.proofs.Equivalences.{all_both, all_mapped, map_map}
+use Rattle.rel_types.proofs.Equivalences.{all_both, all_mapped}
 use Rattle.rel_types.proofs.Procedures.{at_first, names_append, names_declared, proc_law}
 use Rattle.rel_types.proofs.Units.{named_law, globals_law}
 
@@ -79,7 +80,7 @@ main_from x (q ∷ qs) there all = by_name (bytes_eq x q.name) refl (λ t. main_
 callee_names : (i : Interface) (c : Client) (tables : Tables) → map (λ (q : Signature). q.name) (client_callees tables i c) ≡ map (λ (q : Proc). q.name) c.procs ++ map (λ (q : Sig). q.name) i.methods
 callee_names i c tables =
     map-append (λ (q : Signature). q.name) (map signature_of_proc c.procs) (map signature_of_method i.methods)
-    ∙ rw (map_map (λ (q : Signature). q.name) signature_of_proc c.procs, map_map (λ (q : Signature). q.name) signature_of_method i.methods) refl
+    ∙ rw (map-map (λ (q : Signature). q.name) signature_of_proc c.procs, map-map (λ (q : Signature). q.name) signature_of_method i.methods) refl
 
 client_names : (i : Interface) (c : Client) → names_of (interface_globals i ++ client_globals c) ≡ names_of (interface_globals i) ++ declared_names c.globals
 client_names i c = names_append (interface_globals i) (client_globals c) ∙ ap (λ ns. names_of (interface_globals i) ++ ns) (names_declared (ByClient c.name) true c.globals)

@@ -1,5 +1,5 @@
 -- Equivalences put together.
-use Rattle.std.proofs.Common.{◌≡◌, ◌↔◌, false, not, List, [], ◌∷◌, ◌++◌, map, Option, Some, None, IsSome, IsSomeAnd, refl, sym, ap, subst, true≢false}
+use Rattle.std.proofs.Common.{◌≡◌, ◌↔◌, false, not, List, [], ◌∷◌, ◌++◌, map, Option, Some, None, IsSome, IsSomeAnd, refl, sym, subst, true≢false}
 use Rattle.std.specs.Prelude.{is_some}
 use Rattle.std.specs.List.{AllByRecursion}
 
@@ -27,10 +27,6 @@ iff_all P Q each (x ∷ xs) = let rest = iff_all P Q each xs in (λ h. ((each x)
 pub all_of_append : {X : Type 0} (P : X → Type 0) (xs ys : List X) → AllByRecursion P (xs ++ ys) ↔ (AllByRecursion P xs × AllByRecursion P ys)
 all_of_append P [] ys = (λ h. (tt, h), λ h. h.1)
 all_of_append P (x ∷ xs) ys = let rest = all_of_append P xs ys in (λ h. let r = rest.0 h.1 in ((h.0, r.0), r.1), λ h. (h.0.0, rest.1 (h.0.1, h.1)))
-
-pub map_map : {A B C : Type 0} (g : B → C) (f : A → B) (xs : List A) → map g (map f xs) ≡ map (λ x. g (f x)) xs
-map_map g f [] = refl
-map_map g f (x ∷ xs) = ap (λ r. g (f x) ∷ r) (map_map g f xs)
 
 pub all_both : {X : Type 0} (P Q : X → Type 0) (xs : List X) → AllByRecursion (λ x. P x × Q x) xs ↔ (AllByRecursion P xs × AllByRecursion Q xs)
 all_both P Q [] = (λ h. (tt, tt), λ h. tt)
