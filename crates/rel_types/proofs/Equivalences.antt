@@ -36,10 +36,6 @@ pub all_mapped : {X Y : Type 0} (P : Y → Type 0) (f : X → Y) (xs : List X) �
 all_mapped P f [] = (λ h. tt, λ h. tt)
 all_mapped P f (x ∷ xs) = iff_both iff_same (all_mapped P f xs)
 
-pub all_everywhere : {X : Type 0} (P : X → Type 0) → ((x : X) → P x) → (xs : List X) → AllByRecursion P xs
-all_everywhere P each [] = tt
-all_everywhere P each (x ∷ xs) = (each x, all_everywhere P each xs)
-
 -- ---- options
 
 pub some_is_tested : {A : Type 0} (o : Option A) → IsSome o ↔ (not (is_some o) ≡ false)
