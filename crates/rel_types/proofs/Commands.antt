@@ -3,7 +3,6 @@ use Rattle.std.proofs.Common.{◌≡◌, ◌≢◌, ℕ, Bool, true, false, not,
 use Rattle.std.specs.Prelude.{◌==◌, bytes_eq, is_some}
 use Rattle.std.proofs.Math.Dec.{eqb-suc-suc, eqb-suc-zero, eqb-zero-suc}
 use Rattle.std.proofs.lemmas.Bool.{not-false, not_from_true}
-use Rattle.std.proofs.lemmas.Slice.Eq.{bytes_eq-Decides}
 use Rattle.rel_lang.specs.Syntax.{Word, Ty, Class, Expression, Formula, Command, At, Form, Skip, Assign, Load, Store, New, Call, If, While, Block, End, Then, Decl}
 use Rattle.rel_lang.specs.State.{Tables, ClassField, find_field, find_named, Scope, Variable, find_variable}
 use Rattle.rel_lang.specs.Lookup.{main_name}
@@ -13,6 +12,7 @@ use Rattle.rel_types.specs.Inference.{same_type, Inferred, Exactly, fits, infer,
 use Rattle.rel_types.specs.Code.{Code, find_callee, unknown_where, has_type, cannot_be_assigned, cannot_take, flaws_of_target, flaws_of_reference, flaws_of_arguments, flaws_of_load, flaws_of_store, flaws_of_call, flaws_of_form, inner_fault, command_fault, block_fault}
 use Rattle.rel_types.proofs.Equivalences.{iff_then, iff_back, iff_both}
 use Rattle.rel_types.proofs.Clean.{IsClean, clean_both, HasNoFault, no_fault_at, no_fault_in_both}
+use Rattle.rel_types.proofs.Names.{apart_is_false}
 use Rattle.rel_types.proofs.Expressions.{AreFine, among_law, type_law, expression_law}
 use Rattle.rel_types.proofs.Formulas.{two_clean, formula_law}
 
@@ -127,13 +127,6 @@ arguments_law tables ns (e ∷ es) (d ∷ ds) = joined (code_law tables ns e d.t
           (p.1 c.0, q.1 (sym (eqb-suc-suc (length es) (length ds)) ∙ h.0, c.1)),
     )
 
-isnt_law : (x y : Word) → (x ≢ y) ↔ (bytes_eq x y ≡ false)
-isnt_law x y = (to (bytes_eq x y) refl, λ h e. let same = (bytes_eq-Decides x y).1 e in absurd cc)
-  where
-    to : (b : Bool) → bytes_eq x y ≡ b → (x ≢ y) → bytes_eq x y ≡ false
-    to true e h = absurd (h ((bytes_eq-Decides x y).0 e))
-    to false e h = e
-
 call_law : (tables : Tables) (scope : Scope) (callees : List Signature) (v : Bool) (x p : Word) (es : List Expression)
     → let code : Code = record { scope = scope; callees = callees; may_call = v } in
     IsTypedCommand tables (names_in code) (At 0 (Call x p es)) ↔ IsClean (flaws_of_call tables code x p es (find_callee p code))
@@ -155,13 +148,13 @@ call_law tables scope callees true x p es = meant (find_named (λ q. q.name) p c
           λ h.
               let a = args.0 h.1.0 in
               (clean_both first (either target rest)).1 (
-                ap (λ b. record flawless { not_visible = b; wrong_arity = not (length es == length q.params) }) ((isnt_law p main_name).0 h.0) ∙ ap (λ b. record flawless { wrong_arity = not b }) a.0,
+                ap (λ b. record flawless { not_visible = b; wrong_arity = not (length es == length q.params) }) ((apart_is_false p main_name).1 h.0) ∙ ap (λ b. record flawless { wrong_arity = not b }) a.0,
                 (clean_both target rest).1 ((target_of (find_variable x scope) q.result).0 h.1.1, a.1),
               ),
           λ h.
               let c = (clean_both first (either target rest)).0 h in
               let d = (clean_both target rest).0 c.1 in
-              ((isnt_law p main_name).1 (ap (λ x. x.not_visible) c.0), (args.1 (not-false (length es == length q.params) (ap (λ x. x.wrong_arity) c.0), d.1), (target_of (find_variable x scope) q.result).1 d.0)),
+              ((apart_is_false p main_name).0 (ap (λ x. x.not_visible) c.0), (args.1 (not-false (length es == length q.params) (ap (λ x. x.wrong_arity) c.0), d.1), (target_of (find_variable x scope) q.result).1 d.0)),
         )
 
 -- ---- commands
