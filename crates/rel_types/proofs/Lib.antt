@@ -1,0 +1,15 @@
+pub mod Equivalences
+pub mod Clean
+pub mod Expressions
+pub mod Formulas
+pub mod Relations
+pub mod Commands
+pub mod AlignmentsTyped
+pub mod Names
+pub mod Matches
+pub mod Procedures
+pub mod Units
+pub mod Modules
+pub mod Clients
+pub mod Judgements
+pub mod Bundles

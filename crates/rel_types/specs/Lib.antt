@@ -1,0 +1,6 @@
+pub mod Flaws
+pub mod Inference
+pub mod Code
+pub mod Alignments
+pub mod Items
+pub mod Laws
