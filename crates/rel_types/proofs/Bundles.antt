@@ -12,7 +12,7 @@ use Rattle.rel_lang.specs.Typed.{AreDistinct, item_name, IsTypedInterface, IsTyp
 use Rattle.rel_types.specs.Flaws.{Flaws, flawless, either, Pass, ForTwice, ForOthers, Fault, fault_at, first_of, first_in}
 use Rattle.rel_types.specs.Inference.{is_among, have_unknown_types}
 use Rattle.rel_types.specs.Alignments.{align_fault}
-use Rattle.rel_types.specs.Items.{repeats, declared_names, twice_where, globals_of_interface, flaws_of_globals, clause_fault, rel_clause_fault, proc_fault, first_named, misses_methods, init_in_module, method_in_module, signatures_of, module_body_fault, module_fault, setting_in_client, callees_in_client, flaws_of_client_proc, client_fault, interface_of_module, differ_in_interface, globals_of_side, init_of_side, method_of_side, module_sides, pair_fault, item_fault, items_fault}
+use Rattle.rel_types.specs.Items.{repeats, declared_names, twice_where, globals_of_interface, flaws_of_globals, clause_fault, rel_clause_fault, proc_fault, first_named, misses_methods, init_in_module, method_in_module, signatures_of, module_body_fault, module_fault, setting_in_client, callees_in_client, flaws_of_client_proc, client_fault, interface_of_module, differ_in_interface, globals_of_side, init_of_side, method_of_side, module_sides, pair_fault, item_fault, fields_of_item, items_fault}
 use Rattle.rel_types.specs.Laws.{TypedHaveNoFault}
 use Rattle.rel_types.proofs.Clean.{IsClean, HasNoFault, or_false, first_none, no_fault_in_both, clean_both}
 use Rattle.rel_types.proofs.Names.{AreApart, apart_from_nothing, apart_cons, apart_append, apart_of_append, among_is_false, same_from_true, distinct_append, repeats_is_false}
@@ -57,13 +57,9 @@ modules_all P Q each (OfPair p ∷ is) all = modules_all P Q each is all.1
 -- ---- fields
 
 -- the fields that an item declares, and those of a list of items
-abbrev own_fields : Item → List Word
-own_fields (OfClass c) = declared_names c.fields
-own_fields _ = []
-
 abbrev fields_in : List Item → List Word
 fields_in [] = []
-fields_in (i ∷ is) = own_fields i ++ fields_in is
+fields_in (i ∷ is) = fields_of_item i ++ fields_in is
 
 field_names : (is : List Item) → map (λ (d : ClassField). d.name) (fields_of (class_items is)) ≡ fields_in is
 field_names [] = refl
@@ -143,7 +139,7 @@ module _ (b : Bundle) where
   no_fields seen x P = iff_both (twice_clean (is_among x seen)) (λ h. (refl, h), λ h. h.1)
 
   item_law : (seen fields : List Word) (i : Item) → HasNoFault (λ pass. item_fault b pass seen fields i)
-      ↔ ((is_among (item_name i) seen ≡ false) × ((repeats fields (own_fields i) ≡ false) × IsFine b i))
+      ↔ ((is_among (item_name i) seen ≡ false) × ((repeats fields (fields_of_item i) ≡ false) × IsFine b i))
   item_law seen fields (OfClass c) =
       iff_then (class_law (tables_of b) fields (twice_where (is_among c.name seen)) c) (iff_both (twice_clean (is_among c.name seen)) iff_same)
   item_law seen fields (OfInterface i) = iff_then (interface_law (tables_of b) (twice_where (is_among i.name seen)) i) (no_fields seen i.name (IsFine b (OfInterface i)))
@@ -159,15 +155,15 @@ module _ (b : Bundle) where
       ↔ ((AreDistinct (map item_name is) × AreApart seen (map item_name is)) × ((AreDistinct (fields_in is) × AreApart fields (fields_in is)) × AllByRecursion (IsFine b) is))
   items_law seen fields [] = (λ h. ((tt, tt), ((tt, tt), tt)), λ h. (refl, refl))
   items_law seen fields (i ∷ is) =
-      let whole = no_fault_in_both (λ pass. item_fault b pass seen fields i) (λ pass. items_fault b pass (item_name i ∷ seen) (own_fields i ++ fields) is) in
+      let whole = no_fault_in_both (λ pass. item_fault b pass seen fields i) (λ pass. items_fault b pass (item_name i ∷ seen) (fields_of_item i ++ fields) is) in
       let here = item_law seen fields i in
-      let rest = items_law (item_name i ∷ seen) (own_fields i ++ fields) is in
+      let rest = items_law (item_name i ∷ seen) (fields_of_item i ++ fields) is in
       let among = among_is_false (item_name i) seen in
       let names = apart_cons (item_name i) seen (map item_name is) in
-      let own = repeats_is_false fields (own_fields i) in
-      let all = distinct_append (own_fields i) (fields_in is) in
-      let before = apart_append (own_fields i) fields (fields_in is) in
-      let later = apart_of_append fields (own_fields i) (fields_in is) in (
+      let own = repeats_is_false fields (fields_of_item i) in
+      let all = distinct_append (fields_of_item i) (fields_in is) in
+      let before = apart_append (fields_of_item i) fields (fields_in is) in
+      let later = apart_of_append fields (fields_of_item i) (fields_in is) in (
         λ h.
             let w = whole.0 h in
             let e = here.0 w.0 in

@@ -1,6 +1,6 @@
 -- What biprograms and weavings have wrong, and the first fault of an alignment.
-use Rattle.std.specs.Prelude.{ℕ, Bool, true, false, not, ◌&&◌, ◌||◌, List, [], ◌∷◌, Option, Some, None, is_some, bytes_eq}
-use Rattle.rel_lang.specs.Syntax.{Word, Ty, Class, Formula, RelFormula, Command, At, Form, Call, Block, BiLoop, BiCommand, BiAt, BiForm, Split, Sync, SyncCall, BiIf, BiWhile, Link, Note, BiBlock, BiEnd, BiThen, Act, ActSeq, ActSync, ActCall, ActIf, ActWhile, ActLink, ActNote, ActDrop, WeaveStep, Align, Given, Woven, Judgement}
+use Rattle.std.specs.Prelude.{Bool, true, false, not, ◌&&◌, ◌||◌, List, Option, Some, None, is_some, bytes_eq}
+use Rattle.rel_lang.specs.Syntax.{Word, Formula, RelFormula, Command, At, Call, BiLoop, BiCommand, BiAt, BiForm, Split, Sync, SyncCall, BiIf, BiWhile, Link, Note, BiBlock, BiEnd, BiThen, Act, ActCall, ActWhile, ActLink, ActNote, WeaveStep, Align, Given, Woven, Judgement}
 use Rattle.rel_lang.specs.State.{Tables, Scope, Variable, find_variable}
 use Rattle.rel_lang.specs.Lookup.{find_judgement}
 use Rattle.rel_types.specs.Flaws.{Flaws, flawless, either, Pass, Fault, fault_at, first_of, first_in}
@@ -38,7 +38,8 @@ are_linked _ _ = false
 
 abbrev pub flaws_of_link : Scope → Scope → Word → Word → Flaws
 flaws_of_link l r x y = record flawless {
-  unknown = not (is_in_scope x l) || not (is_in_scope y r); wrong_type = not (are_linked (find_variable x l) (find_variable y r));
+  unknown = not (is_in_scope x l) || not (is_in_scope y r);
+  wrong_type = not (are_linked (find_variable x l) (find_variable y r));
 }
 
 module _ (tables : Tables) where

@@ -1,12 +1,11 @@
 -- What commands have wrong, and the first fault of a block.
-use Rattle.std.specs.Prelude.{ℕ, Bool, true, false, not, ◌==◌, ◌&&◌, ◌||◌, List, [], ◌∷◌, length, Option, Some, None, is_none, bytes_eq}
-use Rattle.std.specs.List.{list_any}
-use Rattle.rel_lang.specs.Syntax.{Word, Ty, Class, Expression, Formula, Command, At, Form, Skip, Assign, Load, Store, New, Call, If, While, Block, End, Then, Decl}
+use Rattle.std.specs.Prelude.{Bool, true, false, not, ◌==◌, ◌||◌, List, [], ◌∷◌, length, Option, Some, None, bytes_eq}
+use Rattle.rel_lang.specs.Syntax.{Word, Ty, Class, Expression, Command, At, Form, Skip, Assign, Load, Store, New, Call, If, While, Block, End, Then, Decl}
 use Rattle.rel_lang.specs.State.{Tables, ClassField, find_field, find_named, Scope, Variable, find_variable}
 use Rattle.rel_lang.specs.Lookup.{main_name}
 use Rattle.rel_lang.specs.Typed.{Signature}
 use Rattle.rel_types.specs.Flaws.{Flaws, flawless, either, Pass, Fault, fault_at, first_of}
-use Rattle.rel_types.specs.Inference.{is_in_scope, same_type, Inferred, NoType, Exactly, fits, infer, has_unknown, misplaces_old, is_class, flaws_of_formula, flaws_of_test, flaws_of_code, flaws_of_value}
+use Rattle.rel_types.specs.Inference.{is_in_scope, same_type, Inferred, Exactly, fits, infer, is_class, flaws_of_formula, flaws_of_test, flaws_of_code, flaws_of_value}
 
 -- What code can name: variables, and the procedures or methods that a call can mean. The code of a module may name its interface's methods and
 -- call none of them.
@@ -40,7 +39,9 @@ cannot_take i (Some v) = not (fits i v.ty)
 -- a variable that is assigned something of this type
 abbrev pub flaws_of_target : Scope → Word → Inferred → Flaws
 flaws_of_target sc x i = record flawless {
-  unknown = not (is_in_scope x sc); target = cannot_be_assigned (find_variable x sc); wrong_type = cannot_take i (find_variable x sc);
+  unknown = not (is_in_scope x sc);
+  target = cannot_be_assigned (find_variable x sc);
+  wrong_type = cannot_take i (find_variable x sc);
 }
 
 -- a variable that refers to an object of the class

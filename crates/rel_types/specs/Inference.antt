@@ -1,11 +1,11 @@
 -- What expressions and formulas have wrong.
-use Rattle.std.specs.Prelude.{Bool, true, false, not, ◌&&◌, ◌||◌, if◌then◌else◌, List, [], ◌∷◌, map, Option, Some, None, is_none, is_some, bytes_eq}
+use Rattle.std.specs.Prelude.{Bool, true, false, not, ◌&&◌, ◌||◌, if◌then◌else◌, List, ◌∷◌, Option, Some, None, is_some, bytes_eq}
 use Rattle.std.specs.List.{list_any}
-use Rattle.rel_lang.specs.Syntax.{Word, Ty, Int, Rgn, Class, Side, Left, Right, Expression, Var, Num, Null, Empty, Alloc, Add, Sub, Mul, Field, Single, Union, Meet, Minus, Image, Filter, Old, Formula, True, False, Eq, Lt, Le, Member, Subset, Not, And, Or, Implies, Every, Exists, RelFormula, RelTrue, RelFalse, OnLeft, OnRight, Both, Agree, AgreeImage, RelNot, RelAnd, RelOr, RelImplies, RelEvery, RelExists, Eventually, Decl}
+use Rattle.rel_lang.specs.Syntax.{Word, Ty, Int, Rgn, Class, Left, Right, Expression, Var, Num, Null, Empty, Alloc, Add, Sub, Mul, Field, Single, Union, Meet, Minus, Image, Filter, Old, Formula, True, False, Eq, Lt, Le, Member, Subset, Not, And, Or, Implies, Every, Exists, RelFormula, RelTrue, RelFalse, OnLeft, OnRight, Both, Agree, AgreeImage, RelNot, RelAnd, RelOr, RelImplies, RelEvery, RelExists, Eventually, Decl}
 use Rattle.rel_lang.specs.State.{Tables, ClassField, find_field, Scope, Variable, find_variable}
 use Rattle.rel_lang.specs.Truth.{quantified}
 use Rattle.rel_lang.specs.Typed.{is_code, is_test}
-use Rattle.rel_types.specs.Flaws.{Flaws, flawless, either}
+use Rattle.rel_types.specs.Flaws.{Flaws, flawless}
 
 abbrev pub is_among : Word → List Word → Bool
 is_among x ys = list_any (λ y. bytes_eq x y) ys
@@ -272,12 +272,18 @@ module _ (tables : Tables) where
   -- a formula, where `old` can stand or can't
   abbrev pub flaws_of_formula : Bool → Scope → Formula → Flaws
   flaws_of_formula old sc p = record flawless {
-    twice = binds_twice sc p; unknown = formula_has_unknown sc p; old_here = formula_misplaces_old old p; wrong_type = is_ill_typed sc p;
+    twice = binds_twice sc p;
+    unknown = formula_has_unknown sc p;
+    old_here = formula_misplaces_old old p;
+    wrong_type = is_ill_typed sc p;
   }
 
   abbrev pub flaws_of_rel : Bool → Scope → Scope → RelFormula → Flaws
   flaws_of_rel old l r a = record flawless {
-    twice = rel_binds_twice l r a; unknown = rel_has_unknown l r a; old_here = rel_misplaces_old old a; wrong_type = rel_is_ill_typed l r a;
+    twice = rel_binds_twice l r a;
+    unknown = rel_has_unknown l r a;
+    old_here = rel_misplaces_old old a;
+    wrong_type = rel_is_ill_typed l r a;
   }
 
   abbrev pub flaws_of_test : Scope → Formula → Flaws

@@ -1,9 +1,8 @@
 -- What items and their members have wrong, and the first fault of a bundle.
-use Rattle.std.specs.Prelude.{ℕ, Bool, true, false, not, ◌&&◌, ◌||◌, List, [], ◌∷◌, ◌++◌, map, Option, Some, None, is_none, is_some, bytes_eq, option_map, option_and_then}
-use Rattle.std.specs.List.{list_any}
-use Rattle.rel_lang.specs.Syntax.{Word, Ty, Decl, Place, Effect, Global, Locations, Clause, RelClause, Spec, Body, Proc, Sig, ClassItem, Interface, Module, UnitItem, Client, Judgement, ModulePair, Align, Item, OfClass, OfInterface, OfModule, OfUnit, OfClient, OfJudgement, OfPair, Bundle}
-use Rattle.rel_lang.specs.State.{Tables, tables_of, Scope, find_variable}
-use Rattle.rel_lang.specs.Scope.{Setting, result_name, interface_globals, client_globals, module_globals, globals_of, pre_scope, post_scope, body_scope, unit_setting, client_setting, signature_setting, method_setting, init_setting}
+use Rattle.std.specs.Prelude.{Bool, true, false, not, ◌&&◌, ◌||◌, List, [], ◌∷◌, ◌++◌, map, Option, Some, None, is_none, bytes_eq, option_map, option_and_then}
+use Rattle.rel_lang.specs.Syntax.{Word, Ty, Decl, Place, Effect, Global, Locations, Clause, RelClause, Spec, Body, Proc, Sig, ClassItem, Interface, Module, UnitItem, Client, Judgement, ModulePair, Item, OfClass, OfInterface, OfModule, OfUnit, OfClient, OfJudgement, OfPair, Bundle}
+use Rattle.rel_lang.specs.State.{Tables, tables_of, Scope}
+use Rattle.rel_lang.specs.Scope.{Setting, result_name, interface_globals, client_globals, module_globals, globals_of, pre_scope, post_scope, body_scope, unit_setting, signature_setting}
 use Rattle.rel_lang.specs.Lookup.{judgements_of, find_interface, find_module, find_method, find_body, find_main, main_name, Subject, subject_of}
 use Rattle.rel_lang.specs.Typed.{Signature, signature_of_proc, signature_of_method, item_name, names_of}
 use Rattle.rel_types.specs.Flaws.{Flaws, flawless, either, Pass, Fault, fault_at, first_of, first_in, ForTwice, ForOthers}
@@ -84,7 +83,8 @@ is_empty (d ∷ ds) = false
 -- a procedure of a client; its name may not be a method's, and a `main` has no parameters
 abbrev pub flaws_of_client_proc : Option Interface → List Word → Proc → Flaws
 flaws_of_client_proc i seen q = record flawless {
-  twice = is_among q.name seen || is_among q.name (map (λ m. m.name) (methods_of_interface i)); no_main = bytes_eq q.name main_name && not (is_empty q.params);
+  twice = is_among q.name seen || is_among q.name (map (λ m. m.name) (methods_of_interface i));
+  no_main = bytes_eq q.name main_name && not (is_empty q.params);
 }
 
 module _ (tables : Tables) where
@@ -105,7 +105,8 @@ module _ (tables : Tables) where
   -- the variables that an item declares, behind those of its interface
   abbrev pub flaws_of_globals : Scope → List Decl → Flaws
   flaws_of_globals before ds = record flawless {
-    twice = repeats (seen_by_members before) (declared_names ds); unknown = have_unknown_types tables ds;
+    twice = repeats (seen_by_members before) (declared_names ds);
+    unknown = have_unknown_types tables ds;
   }
 
   module _ (pass : Pass) where
@@ -139,7 +140,8 @@ module _ (tables : Tables) where
     abbrev pub module_body_fault : Setting → List Signature → Body → Option Fault
     module_body_fault g callees b =
         first_of (fault_at pass b.at (record flawless {
-          twice = repeats (seen_by_members (globals_of g)) (declared_names (g.parameters ++ g.locals)); unknown = have_unknown_types tables g.locals;
+          twice = repeats (seen_by_members (globals_of g)) (declared_names (g.parameters ++ g.locals));
+          unknown = have_unknown_types tables g.locals;
         }))
         (block_fault tables pass (record { scope = body_scope g; callees = callees; may_call = false }) b.commands)
 
@@ -159,7 +161,7 @@ module _ (tables : Tables) where
     interface_fault more i =
         let sc = interface_globals i in
         first_of (fault_at pass i.at (either more (either (flaws_of_globals [] i.globals)
-          (either (flaws_of_all (flaws_of_place sc) i.boundary) (flaws_of_all (flaws_of_effect sc sc) i.init_writes)))))
+        (either (flaws_of_all (flaws_of_place sc) i.boundary) (flaws_of_all (flaws_of_effect sc sc) i.init_writes)))))
         (first_of (clause_fault true sc i.init_ensures) (first_named (λ q. q.name) (method_fault i) [] i.methods))
 
     abbrev pub unit_fault : Flaws → UnitItem → Option Fault
@@ -172,7 +174,7 @@ module _ (tables : Tables) where
     abbrev pub module_fault : Flaws → Option Interface → Module → Option Fault
     module_fault more i m =
         first_of (fault_at pass m.at (either more (either (flaws_of_globals (globals_of_interface i) m.globals)
-          (record flawless { unknown = is_none i; missing = misses_methods i (map (λ b. b.0) m.methods) }))))
+        (record flawless { unknown = is_none i; missing = misses_methods i (map (λ b. b.0) m.methods) }))))
         (first_of (clause_fault false (globals_of (init_in_module i m)) m.invariant)
         (first_of (module_body_fault (init_in_module i m) (signatures_of i) m.init)
         (first_in (λ b. module_body_fault (method_in_module i m b) (signatures_of i) b.1) m.methods)))
@@ -180,7 +182,7 @@ module _ (tables : Tables) where
     abbrev pub client_fault : Flaws → Option Interface → Client → Option Fault
     client_fault more i c =
         first_of (fault_at pass c.at (either more (either (flaws_of_globals (globals_of_interface i) c.globals)
-          (record flawless { unknown = is_none i; no_main = is_none (find_main c) }))))
+        (record flawless { unknown = is_none i; no_main = is_none (find_main c) }))))
         (first_named (λ q. q.name) (λ seen q. proc_fault (setting_in_client i c q) (callees_in_client i c) (flaws_of_client_proc i seen q) q) [] c.procs)
 
 -- ---- judgements and pairs
@@ -223,6 +225,10 @@ abbrev pub differ_in_interface : Option Module → Option Module → Bool
 differ_in_interface (Some m) (Some n) = not (bytes_eq m.interface n.interface)
 differ_in_interface _ _ = false
 
+abbrev pub fields_of_item : Item → List Word
+fields_of_item (OfClass c) = declared_names c.fields
+fields_of_item _ = []
+
 module _ (b : Bundle) (pass : Pass) where
   abbrev pub judgement_fault : Flaws → Option Subject → Option Subject → Judgement → Option Fault
   judgement_fault more l r j =
@@ -230,7 +236,10 @@ module _ (b : Bundle) (pass : Pass) where
       (first_of (rel_clause_fault (tables_of b) pass false (pre_scope_of_subject l) (pre_scope_of_subject r) j.needs)
       (first_of (rel_clause_fault (tables_of b) pass true (post_scope_of_subject l) (post_scope_of_subject r) j.gives)
       (align_fault (tables_of b) pass (record {
-        left = code_of_subject l; right = code_of_subject r; judgements = judgements_of b.items; units = Some (j.left.0, j.right.0);
+        left = code_of_subject l;
+        right = code_of_subject r;
+        judgements = judgements_of b.items;
+        units = Some (j.left.0, j.right.0);
       }) j.align)))
 
   abbrev pub module_sides : Code → Code → Sides
@@ -240,7 +249,8 @@ module _ (b : Bundle) (pass : Pass) where
   abbrev pub pair_fault : Flaws → Option Module → Option Module → Option Interface → ModulePair → Option Fault
   pair_fault more m n i p =
       first_of (fault_at pass p.at (either more (record flawless {
-        unknown = is_none m || is_none n; missing = differ_in_interface m n || misses_methods i (map (λ a. a.1) p.methods);
+        unknown = is_none m || is_none n;
+        missing = differ_in_interface m n || misses_methods i (map (λ a. a.1) p.methods);
       })))
       (first_of (rel_clause_fault (tables_of b) pass false (globals_of_side i m) (globals_of_side i n) p.coupling)
       (first_of (align_fault (tables_of b) pass (module_sides (init_of_side i m) (init_of_side i n)) p.init.1)
@@ -259,10 +269,6 @@ module _ (b : Bundle) (pass : Pass) where
   item_fault seen fields (OfPair p) =
       let m = find_module b p.left in
       pair_fault (twice_where (is_among p.name seen)) m (find_module b p.right) (interface_of_module b m) p
-
-  abbrev pub fields_of_item : Item → List Word
-  fields_of_item (OfClass c) = declared_names c.fields
-  fields_of_item _ = []
 
   abbrev pub items_fault : List Word → List Word → List Item → Option Fault
   items_fault seen fields [] = None
