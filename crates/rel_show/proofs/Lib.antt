@@ -6,3 +6,5 @@ pub mod Relations
 pub mod Commands
 pub mod Biprograms
 pub mod Items
+pub mod Stops
+pub mod Walk

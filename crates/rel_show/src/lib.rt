@@ -10,6 +10,7 @@ mod command;
 mod expr;
 mod formula;
 mod item;
+pub mod laws;
 mod relation;
 mod several;
 mod text;
