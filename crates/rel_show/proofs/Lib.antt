@@ -8,3 +8,4 @@ pub mod Biprograms
 pub mod Items
 pub mod Stops
 pub mod Walk
+pub mod Fixed

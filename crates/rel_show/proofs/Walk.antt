@@ -9,7 +9,7 @@ use Rattle.std.proofs.lemmas.Str.Ascii.{IsAscii-cons, IsAscii-nil}
 use Rattle.rel_lang.specs.Syntax.{Word}
 use Rattle.rel_lang.specs.Tokens.{Token, Piece, LexicalFault, piece_at, after_token, with_piece, lexed_from}
 use Rattle.rel_lang.specs.Tokens.Piece.{gap, token}
-use Rattle.rel_lang.specs.Text.{Mark, Says, text_of}
+use Rattle.rel_lang.specs.Text.{Mark, Said, Says, text_of}
 use Rattle.rel_show.specs.Laws.{Spells}
 use Rattle.rel_show.proofs.Stops.{Stops}
 
@@ -80,14 +80,14 @@ pub record Reads (text : List ℕ) (ms : List Mark) : Type 0 where
 pub nothing : Reads [] []
 nothing = record { utf8 = IsUtf8-nil; from = λ at. record { found = []; cut = ap (lexed_from 0 at) chars-nil ∙ at_end 0 at; spelled = tt } }
 
--- a mark whose text is a token before a space or a line feed
-pub record IsFit (m : Mark) : Type 0 where
-  pub utf8 : IsUtf8 (text_of m.said)
-  pub some : 0 < length (chars (text_of m.said))
-  pub stops : Stops (chars (text_of m.said))
-  pub says : Says (text_of m.said) m.said
+-- its text is a token before a space or a line feed
+pub record IsFit (s : Said) : Type 0 where
+  pub utf8 : IsUtf8 (text_of s)
+  pub some : 0 < length (chars (text_of s))
+  pub stops : Stops (chars (text_of s))
+  pub says : Says (text_of s) s
 
-module _ (m : Mark) (fit : IsFit m) (text : List ℕ) (ms : List Mark) (behind : Reads text ms) where
+module _ (m : Mark) (fit : IsFit m.said) (text : List ℕ) (ms : List Mark) (behind : Reads text ms) where
   abbrev word : List ℕ
   word = text_of m.said
 
