@@ -9,3 +9,5 @@ pub mod Items
 pub mod Stops
 pub mod Walk
 pub mod Fixed
+pub mod Words
+pub mod ItemWords
