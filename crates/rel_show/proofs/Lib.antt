@@ -11,3 +11,4 @@ pub mod Walk
 pub mod Fixed
 pub mod Words
 pub mod ItemWords
+pub mod Cutting
