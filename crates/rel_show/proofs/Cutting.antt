@@ -1,5 +1,5 @@
 -- The text that is printed for a bundle is cut into the bundle's tokens.
-use Rattle.std.proofs.Common.{◌≡◌, ℕ, suc, List, [], ◌∷◌, ◌++◌, sym, ap, subst, append_assoc}
+use Rattle.std.proofs.Common.{ℕ, suc, List, [], ◌∷◌, ◌++◌, sym, ap, subst, append_assoc}
 use Rattle.std.specs.List.{AllByRecursion}
 use Rattle.std.specs.Result.{result_ok}
 use Rattle.std.specs.Str.{IsUtf8}
@@ -61,8 +61,8 @@ lines (i ∷ is) n can utf8 =
     let first = element n (show_item i) in
     let rest = repeated show_item (suc n) is in
     let fit_marks =
-        fits (show_item i) (item i).all (same_said CanBeSaid n (show_item i) (all_left (λ m. CanBeSaid m.said) first rest can))
-        (same_said IsText n (show_item i) (all_left (λ m. IsText m.said) first rest utf8)) in
+    fits (show_item i) (item i).all (same_said CanBeSaid n (show_item i) (all_left (λ m. CanBeSaid m.said) first rest can))
+    (same_said IsText n (show_item i) (all_left (λ m. IsText m.said) first rest utf8)) in
     let behind = lines is (suc n) (all_right (λ m. CanBeSaid m.said) first rest can) (all_right (λ m. IsText m.said) first rest utf8) in
     renumbered n (show_item i) rest (shown (i ∷ is)) (line (show_item i) (item_some i) fit_marks (shown is) rest behind)
 

@@ -1,6 +1,6 @@
 -- Each mark of the grammar that is a fixed word is a reserved word or a symbol, and so is what is printed for a mark a token.
-use Rattle.std.proofs.Common.{◌≡◌, ℕ, suc, ◌<◌, ◌≤◌, Bool, true, false, not, ◌&&◌, ◌||◌, pos, negsuc, List, [], ◌∷◌, ◌++◌, length, ◌⊎◌, ⊎_elim, inl, inr, IsUtf8, refl, sym, ap, ◌∙◌, subst, arith}
-use Rattle.std.specs.Prelude.{bytes_eq, codes}
+use Rattle.std.proofs.Common.{◌≡◌, ℕ, ◌<◌, Bool, true, not, ◌||◌, pos, negsuc, List, [], ◌∷◌, length, ⊎_elim, IsUtf8, refl, sym, subst, arith}
+use Rattle.std.specs.Prelude.{bytes_eq}
 use Rattle.std.specs.Fmt.{decimal}
 use Rattle.std.specs.List.{list_all, list_any, AllByRecursion}
 use Rattle.std.specs.Str.{chars}
@@ -10,8 +10,8 @@ use Rattle.std.proofs.lemmas.Fmt.{IsAscii-decimal_wide, decimal_is_IsNumeral_wid
 use Rattle.std.proofs.lemmas.Slice.Eq.{bytes_eq-Decides}
 use Rattle.std.proofs.lemmas.Str.{chars-IsAscii}
 use Rattle.rel_lang.specs.Syntax.{Word}
-use Rattle.rel_lang.specs.Tokens.{is_reserved, is_name, reserved, symbols, has_name_form, literal_limit}
-use Rattle.rel_lang.specs.Text.{Said, Fixed, Name, Literal, Counting, CanBeSaid, Says, text_of, greatest_count}
+use Rattle.rel_lang.specs.Tokens.{is_reserved, reserved, symbols, has_name_form, literal_limit}
+use Rattle.rel_lang.specs.Text.{Said, Fixed, Name, Literal, Counting, CanBeSaid, Says, text_of}
 use Rattle.rel_show.proofs.Stops.{Stops, are_letters, letters_form, letters_ascii, name_stops, form_some, decimal_stops, below_wide, IsSymbol, symbol_stops, plain_some, all_symbols}
 use Rattle.rel_show.proofs.Walk.{IsFit}
 

@@ -1,8 +1,8 @@
 -- The fixed words of commands, biprograms and items are reserved words and symbols.
-use Rattle.std.proofs.Common.{◌≡◌, ℕ, suc, Bool, true, List, [], ◌∷◌, ◌++◌, refl}
+use Rattle.std.proofs.Common.{ℕ, suc, List, [], ◌∷◌, ◌++◌, refl}
 use Rattle.std.specs.Prelude.{codes}
-use Rattle.rel_lang.specs.Syntax.{Word, Ty, Int, Rgn, Class, Command, At, Form, Skip, Assign, Load, Store, New, Call, If, While, Block, End, Then, BiLoop, BiCommand, BiAt, BiForm, Split, Sync, SyncCall, BiIf, BiWhile, Link, Note, BiBlock, BiEnd, BiThen, Act, ActSeq, ActSync, ActCall, ActIf, ActWhile, ActLink, ActNote, ActDrop, WeaveStep, Align, Given, Woven, Decl, Place, Effect, Global, Locations, Clause, RelClause, Spec, Body, Proc, Sig, ClassItem, Interface, Module, UnitItem, Client, Judgement, ModulePair, Item, OfClass, OfInterface, OfModule, OfUnit, OfClient, OfJudgement, OfPair}
-use Rattle.rel_lang.specs.Text.{Mark, word, named, counted, braced, begins, tree, element, repeated, behind, ended, listed, sides, show_expression, show_formula, show_rel, show_form, show_command, show_commands, show_block, show_loop, show_biform, show_bicommand, show_bicommands, show_act, show_place_numbers, show_weave_step, show_align, show_type, show_decl, show_globals, show_params, show_place, show_effect, show_writes, show_clause, show_rel_clause, show_spec, show_locals, show_body, show_head, show_proc, show_sig, show_boundary, show_method, show_subject, show_pair_method, show_item}
+use Rattle.rel_lang.specs.Syntax.{Word, Ty, Int, Rgn, Class, Command, At, Form, Skip, Assign, Load, Store, New, Call, If, While, Block, End, Then, BiLoop, BiCommand, BiAt, BiForm, Split, Sync, SyncCall, BiIf, BiWhile, Link, Note, BiBlock, BiEnd, BiThen, Act, ActSeq, ActSync, ActCall, ActIf, ActWhile, ActLink, ActNote, ActDrop, WeaveStep, Align, Given, Woven, Decl, Place, Effect, Global, Locations, Clause, RelClause, Spec, Body, Proc, Sig, Item, OfClass, OfInterface, OfModule, OfUnit, OfClient, OfJudgement, OfPair}
+use Rattle.rel_lang.specs.Text.{Mark, word, counted, behind, ended, show_expression, show_form, show_command, show_commands, show_block, show_loop, show_biform, show_bicommand, show_bicommands, show_act, show_place_numbers, show_weave_step, show_align, show_type, show_decl, show_globals, show_params, show_place, show_effect, show_writes, show_clause, show_rel_clause, show_spec, show_locals, show_body, show_head, show_proc, show_sig, show_boundary, show_method, show_subject, show_pair_method, show_item}
 use Rattle.rel_show.proofs.Fixed.{IsKnown}
 use Rattle.rel_show.proofs.Words.{Known, none, first, fixed, called, join, began, treed, numbered, in_braces, each, with_commas, name, expression, formula, relation, parted}
 

@@ -1,6 +1,6 @@
 -- What a space or a line feed behind a token's text ends.
-use Rattle.std.proofs.Common.{◌≡◌, ℕ, zero, suc, ◌+◌, ◌<◌, ◌≤◌, ◌^◌, ◌/◌, ◌%◌, Bool, true, false, not, cond, ◌&&◌, ◌||◌, List, [], ◌∷◌, ◌++◌, length, take, drop, ◌⊎◌, ⊎_elim, inl, inr, refl, sym, ap, ◌∙◌, subst, arith}
-use Rattle.std.specs.Prelude.{take_while, nat_eq, nat_le, nat_lt, ◌==◌, codes, bytes_eq}
+use Rattle.std.proofs.Common.{◌≡◌, ℕ, ◌+◌, ◌<◌, ◌≤◌, ◌^◌, ◌/◌, ◌%◌, Bool, true, false, not, cond, ◌&&◌, ◌||◌, List, [], ◌∷◌, ◌++◌, length, take, ◌⊎◌, ⊎_elim, inl, inr, refl, sym, ap, ◌∙◌, subst, arith}
+use Rattle.std.specs.Prelude.{take_while, nat_eq, nat_le, nat_lt, ◌==◌, codes}
 use Rattle.std.specs.Char.{is_ascii_alphabetic, is_ascii_alphanumeric}
 use Rattle.std.specs.Fmt.{decimal}
 use Rattle.std.specs.List.{list_all, starts_with, AllByRecursion}
@@ -8,11 +8,9 @@ use Rattle.std.specs.Str.{IsAscii, chars}
 use Rattle.std.proofs.lemmas.Str.Ascii.{IsAscii-cons, IsAscii-nil}
 use Rattle.std.specs.Str.Parse.{digits_value}
 use Rattle.std.proofs.Math.Seq.{take-append_seam}
-use Rattle.std.proofs.lemmas.Bool.{and_parts, and_from, and_left, and_right, or_from, le-leb, lt-leb, ltb-true, ne_eqb, eqb-true, both_ways, agree_below, agree_below_at, leb-true, cases_lt}
-use Rattle.std.proofs.lemmas.Bool.Decides.{nat_tests}
+use Rattle.std.proofs.lemmas.Bool.{and_parts, and_from, and_left, and_right, or_from, le-leb, lt-leb, ltb-true, ne_eqb, both_ways, agree_below, agree_below_at, leb-true, cases_lt}
 use Rattle.std.proofs.lemmas.Fmt.{decimal_by_steps_wide, decimal_is_IsNumeral_wide, decimal_digit}
 use Rattle.std.proofs.lemmas.List.Sums.{take_while-cons}
-use Rattle.unicode_ident.specs.Ident.{is_xid_start}
 use Rattle.unicode_ident.proofs.IdentLemmas.{is_xid_start-ascii, is_xid_continue-ascii}
 use Rattle.rel_lang.specs.Tokens.{Piece, piece_at, is_blank, slash, comment_piece, number_piece, symbol_piece, symbols, begins_name, continues_name, is_digit, has_name_form, run_len, literal_limit}
 use Rattle.rel_lang.specs.Tokens.Piece.{gap, token, bad, wide}
@@ -52,11 +50,11 @@ differs c k ascii fails passes = ne_eqb c k (λ same. both_ways (begins_name c) 
 name_piece : (c : ℕ) (cs : List ℕ) → begins_name c ≡ true → piece_at (c ∷ cs) ≡ token (1 + run_len continues_name cs)
 name_piece c cs passes =
     let blank : is_blank c ≡ false =
-        or_from ((c == 32) || (c == 9) || (c == 13)) (c == 10)
-            (or_from ((c == 32) || (c == 9)) (c == 13)
-                (or_from (c == 32) (c == 9) (differs c 32 (omega arith) refl passes) (differs c 9 (omega arith) refl passes))
-                (differs c 13 (omega arith) refl passes))
-            (differs c 10 (omega arith) refl passes) in
+    or_from ((c == 32) || (c == 9) || (c == 13)) (c == 10)
+    (or_from ((c == 32) || (c == 9)) (c == 13)
+    (or_from (c == 32) (c == 9) (differs c 32 (omega arith) refl passes) (differs c 9 (omega arith) refl passes))
+    (differs c 13 (omega arith) refl passes))
+    (differs c 10 (omega arith) refl passes) in
     let comment : (c == slash) ≡ false = differs c 47 (omega arith) refl passes in
     tests c cs ∙ (λ i. by_tests (blank i) (comment i) (passes i) (is_digit c) c cs)
 
@@ -66,6 +64,7 @@ name_stops (c ∷ cs) form = (until 32 (is_xid_continue-ascii 32 (omega arith)),
   where
     parts : (begins_name c ≡ true) × (list_all continues_name cs ≡ true)
     parts = and_parts (begins_name c) (list_all continues_name cs) form
+
     until : (d : ℕ) → continues_name d ≡ false → (rest : List ℕ) → piece_at (c ∷ cs ++ d ∷ rest) ≡ token (length (c ∷ cs))
     until d stops rest = name_piece c (cs ++ d ∷ rest) parts.0 ∙ ap token (omega (arith, run_size continues_name cs d rest parts.1 stops))
 
@@ -82,9 +81,10 @@ letter_ascii : (c : ℕ) → is_letter c ≡ true → c < 128
 letter_ascii c passes = let parts = and_parts (nat_le 97 c) (nat_lt c 123) passes in omega (arith, ltb-true c 123 parts.1)
 
 same_letters : (c : ℕ) → is_letter c ≡ true → ((not (is_letter c) || is_ascii_alphabetic c) ≡ true) × ((not (is_letter c) || is_ascii_alphanumeric c) ≡ true)
-same_letters c passes =
-    (agree_below_at (λ x. not (is_letter x) || is_ascii_alphabetic x) (λ x. true) 128 c refl (letter_ascii c passes),
-     agree_below_at (λ x. not (is_letter x) || is_ascii_alphanumeric x) (λ x. true) 128 c refl (letter_ascii c passes))
+same_letters c passes = (
+  agree_below_at (λ x. not (is_letter x) || is_ascii_alphabetic x) (λ x. true) 128 c refl (letter_ascii c passes),
+  agree_below_at (λ x. not (is_letter x) || is_ascii_alphanumeric x) (λ x. true) 128 c refl (letter_ascii c passes),
+)
 
 letter_begins : (c : ℕ) → is_letter c ≡ true → begins_name c ≡ true
 letter_begins c passes =

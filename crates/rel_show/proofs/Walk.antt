@@ -1,13 +1,12 @@
 -- The tokens of a text, from its first one on.
-use Rattle.std.proofs.Common.{◌≡◌, ℕ, zero, suc, ◌+◌, ◌-◌, ◌<◌, ◌≤◌, Bool, true, false, cond, List, [], ◌∷◌, ◌++◌, length, take, drop, Result, Ok, Err, IsUtf8, refl, sym, ap, ◌∙◌, subst, append_assoc, append-nil, length-append, arith}
+use Rattle.std.proofs.Common.{◌≡◌, ℕ, suc, ◌+◌, ◌-◌, ◌<◌, cond, List, [], ◌∷◌, ◌++◌, length, take, Result, Ok, IsUtf8, refl, sym, ap, ◌∙◌, length-append, arith}
 use Rattle.std.specs.Prelude.{encode_utf8, ◌==◌}
 use Rattle.std.specs.Str.{chars, encode_utf8_all}
-use Rattle.std.proofs.Math.Seq.{take-append_seam, drop-append_seam}
+use Rattle.std.proofs.Math.Seq.{take-append_seam}
 use Rattle.std.proofs.lemmas.Bool.{cond-false, ne_eqb}
 use Rattle.std.proofs.lemmas.Str.{IsUtf8-nil, IsUtf8-append, IsUtf8-from_ascii, encodes-chars, chars-nil, chars-append, chars-IsAscii}
 use Rattle.std.proofs.lemmas.Str.Ascii.{IsAscii-cons, IsAscii-nil}
-use Rattle.rel_lang.specs.Syntax.{Word}
-use Rattle.rel_lang.specs.Tokens.{Token, Piece, LexicalFault, piece_at, after_token, with_piece, lexed_from}
+use Rattle.rel_lang.specs.Tokens.{Token, LexicalFault, piece_at, after_token, with_piece, lexed_from}
 use Rattle.rel_lang.specs.Tokens.Piece.{gap, token}
 use Rattle.rel_lang.specs.Text.{Mark, Said, Says, text_of}
 use Rattle.rel_show.specs.Laws.{Spells}
@@ -60,8 +59,8 @@ past_token at (c ∷ cs) rest some is =
     let size : length (c ∷ cs) ≡ suc (length cs) = omega arith in
     let front : take (length (c ∷ cs)) (c ∷ cs ++ rest) ≡ c ∷ cs = take-append_seam (c ∷ cs) rest in
     let next : onward at c (cs ++ rest) (length (c ∷ cs)) ≡ lexed_from 0 (at + bytes (c ∷ cs)) rest =
-        ap (onward at c (cs ++ rest)) size ∙ onward_one (length cs) at c (cs ++ rest) ∙ sym (one_passed (length cs) at c (cs ++ rest))
-        ∙ ap (λ k. lexed_from k at (c ∷ cs ++ rest)) (sym size) ∙ all_passed (c ∷ cs) at rest in
+    ap (onward at c (cs ++ rest)) size ∙ onward_one (length cs) at c (cs ++ rest) ∙ sym (one_passed (length cs) at c (cs ++ rest))
+    ∙ ap (λ k. lexed_from k at (c ∷ cs ++ rest)) (sym size) ∙ all_passed (c ∷ cs) at rest in
     by_passed 0 at c (cs ++ rest) ∙ ap (λ p. with_piece p at (c ∷ cs ++ rest) (onward at c (cs ++ rest))) is
     ∙ (λ i. after_token (record { text = encode_utf8_all (front i); at = at }) (next i))
 

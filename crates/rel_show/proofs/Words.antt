@@ -1,9 +1,9 @@
 -- The fixed words of the grammar are reserved words and symbols.
-use Rattle.std.proofs.Common.{◌≡◌, ℕ, suc, Bool, true, List, [], ◌∷◌, ◌++◌, refl}
+use Rattle.std.proofs.Common.{◌≡◌, ℕ, suc, true, List, [], ◌∷◌, ◌++◌, refl}
 use Rattle.std.specs.Prelude.{codes}
 use Rattle.std.specs.List.{AllByRecursion}
-use Rattle.rel_lang.specs.Syntax.{Word, Ty, Int, Rgn, Class, Side, Left, Right, Expression, Var, Num, Null, Empty, Alloc, Add, Sub, Mul, Field, Single, Union, Meet, Minus, Image, Filter, Old, Formula, True, False, Eq, Lt, Le, Member, Subset, Not, And, Or, Implies, Every, Exists, RelFormula, RelTrue, RelFalse, OnLeft, OnRight, Both, Agree, AgreeImage, RelNot, RelAnd, RelOr, RelImplies, RelEvery, RelExists, Eventually}
-use Rattle.rel_lang.specs.Text.{Mark, word, named, braced, begins, tree, element, repeated, behind, ended, listed, operation, connective, quantified, show_expression, show_formula, show_side, show_rel, sides}
+use Rattle.rel_lang.specs.Syntax.{Word, Side, Left, Right, Expression, Var, Num, Null, Empty, Alloc, Add, Sub, Mul, Field, Single, Union, Meet, Minus, Image, Filter, Old, Formula, True, False, Eq, Lt, Le, Member, Subset, Not, And, Or, Implies, Every, Exists, RelFormula, RelTrue, RelFalse, OnLeft, OnRight, Both, Agree, AgreeImage, RelNot, RelAnd, RelOr, RelImplies, RelEvery, RelExists, Eventually}
+use Rattle.rel_lang.specs.Text.{Mark, word, named, braced, begins, tree, element, repeated, behind, listed, operation, connective, quantified, show_expression, show_formula, show_side, show_rel, sides}
 use Rattle.rel_lang.proofs.Writes.{all_append}
 use Rattle.rel_show.proofs.Fixed.{is_fixed, IsKnown}
 
