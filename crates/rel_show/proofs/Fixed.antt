@@ -1,4 +1,4 @@
--- Each mark of the grammar that is a fixed word is a reserved word or a symbol, and so is what is printed for a mark a token.
+-- Where each fixed word is a reserved word or a symbol, what is printed for a mark is a token.
 use Rattle.std.proofs.Common.{◌≡◌, ℕ, ◌<◌, Bool, true, not, ◌||◌, pos, negsuc, List, [], ◌∷◌, length, ⊎_elim, IsUtf8, refl, sym, subst, arith}
 use Rattle.std.specs.Prelude.{bytes_eq}
 use Rattle.std.specs.Fmt.{decimal}

@@ -1,4 +1,4 @@
--- What a space or a line feed behind a token's text ends.
+-- Which characters are a token where a space or a line feed stands behind them.
 use Rattle.std.proofs.Common.{◌≡◌, ℕ, ◌+◌, ◌<◌, ◌≤◌, ◌^◌, ◌/◌, ◌%◌, Bool, true, false, not, cond, ◌&&◌, ◌||◌, List, [], ◌∷◌, ◌++◌, length, take, ◌⊎◌, ⊎_elim, inl, inr, refl, sym, ap, ◌∙◌, subst, arith}
 use Rattle.std.specs.Prelude.{take_while, nat_eq, nat_le, nat_lt, ◌==◌, codes}
 use Rattle.std.specs.Char.{is_ascii_alphabetic, is_ascii_alphanumeric}
@@ -205,8 +205,11 @@ decimal_stops n lt =
     let value = (decimal_is_IsNumeral_wide n wide_enough).1 in
     digits_stop (decimal n) is.0 (alone is.1) (subst (λ k. k < literal_limit) (sym value) lt)
   where
+    zero : n ≡ 0 → StandsAlone (decimal n)
+    zero is = subst StandsAlone (sym (ap decimal is ∙ decimal_digit 0 (omega arith))) (inr refl)
+
     alone : (0 < n → BeginsAbove (decimal n)) → StandsAlone (decimal n)
-    alone above = ⊎_elim (λ some. above_alone (decimal n) (above some)) (λ none. subst (λ k. StandsAlone (decimal k)) (let e : 0 ≡ n = omega (arith, none) in e) (subst StandsAlone (sym (decimal_digit 0 (omega arith))) (inr refl))) (cases_lt 0 n)
+    alone above = ⊎_elim (λ some. above_alone (decimal n) (above some)) (λ none. zero (omega (arith, none))) (cases_lt 0 n)
 
 -- ---- symbols
 
@@ -236,5 +239,4 @@ plain_some (c ∷ cs) is = omega arith
 
 pub all_symbols : AllByRecursion IsSymbol symbols
 unfolding chars
-all_symbols =
-    ((refl, (omega arith, refl), λ rest. refl, λ rest. refl), ((refl, (omega arith, refl), λ rest. refl, λ rest. refl), ((refl, (omega arith, refl), λ rest. refl, λ rest. refl), ((refl, (omega arith, refl), λ rest. refl, λ rest. refl), ((refl, (omega arith, refl), λ rest. refl, λ rest. refl), ((refl, (omega arith, refl), λ rest. refl, λ rest. refl), ((refl, (omega arith, refl), λ rest. refl, λ rest. refl), ((refl, (omega arith, refl), λ rest. refl, λ rest. refl), ((refl, (omega arith, refl), λ rest. refl, λ rest. refl), ((refl, (omega arith, refl), λ rest. refl, λ rest. refl), ((refl, (omega arith, refl), λ rest. refl, λ rest. refl), ((refl, (omega arith, refl), λ rest. refl, λ rest. refl), ((refl, (omega arith, refl), λ rest. refl, λ rest. refl), ((refl, (omega arith, refl), λ rest. refl, λ rest. refl), ((refl, (omega arith, refl), λ rest. refl, λ rest. refl), ((refl, (omega arith, refl), λ rest. refl, λ rest. refl), ((refl, (omega arith, refl), λ rest. refl, λ rest. refl), ((refl, (omega arith, refl), λ rest. refl, λ rest. refl), ((refl, (omega arith, refl), λ rest. refl, λ rest. refl), ((refl, (omega arith, refl), λ rest. refl, λ rest. refl), ((refl, (omega arith, refl), λ rest. refl, λ rest. refl), tt)))))))))))))))))))))
+all_symbols = search arith
