@@ -12,3 +12,11 @@ pub mod PlacesCommands
 pub mod PlacesBiprograms
 pub mod PlacesShapes
 pub mod PlacesItems
+pub mod Stops
+pub mod Walk
+pub mod Fixed
+pub mod Words
+pub mod ItemWords
+pub mod Cutting
+pub mod Spelled
+pub mod Printed

@@ -4,7 +4,7 @@ use Rattle.std.specs.List.{AllByRecursion}
 use Rattle.rel_lang.specs.Syntax.{Word}
 use Rattle.rel_lang.specs.Tokens.{Token}
 use Rattle.rel_lang.specs.Text.{Mark, Says, CanBeSaid, AreAt, Match, tree, element, begins, braced, repeated, ended}
-use Rattle.rel_show.specs.Laws.{Spells}
+use Rattle.rel_show.proofs.Spelled.{Spells}
 
 -- the second marks say what the first do and begin trees at the places of the tokens, which say that too
 abbrev pub Placed : List Mark → List Mark → List Token → Type 0

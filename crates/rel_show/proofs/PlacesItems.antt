@@ -3,7 +3,7 @@ use Rattle.std.proofs.Common.{ℕ, List, ◌++◌, refl, ap}
 use Rattle.rel_lang.specs.Syntax.{Word, Clause, RelClause, Spec, Block, Body, Proc, Sig, ClassItem, Interface, Module, UnitItem, Client, Judgement, ModulePair, Align, Decl, Place, Item, OfClass, OfInterface, OfModule, OfUnit, OfClient, OfJudgement, OfPair, without_at}
 use Rattle.rel_lang.specs.Text.{braced, show_formula, show_rel, show_commands, show_place, show_clause, show_rel_clause, show_spec, show_locals, show_head, show_proc, show_sig, show_class, show_boundary, show_interface, show_method, show_module, show_unit, show_client, show_judgement, show_pair_method, show_pair, show_item, show_tokens, repeated, IsShapedItem}
 use Rattle.rel_show.specs.Places.{clause_without_at, rel_clause_without_at, spec_without_at, proc_without_at, sig_without_at, class_without_at, interface_without_at, method_without_at, module_without_at, unit_without_at, client_without_at, judgement_without_at, pair_method_without_at, pair_without_at, item_without_at}
-use Rattle.rel_show.specs.Laws.{SpelledTokensPlaceABundle}
+use Rattle.rel_show.proofs.Spelled.{SpelledTokensPlaceABundle}
 use Rattle.rel_show.proofs.Places.{Places, placed_match, placed_said, done, keep, start, start_both, append, last, skip, whole, started, braced_places, repeated_places}
 use Rattle.rel_show.proofs.PlacesPlain.{plain_formula, plain_rel, plain_braced, plain_listed, plain_globals, plain_locals, plain_fields, plain_place, plain_writes, plain_head}
 use Rattle.rel_show.proofs.PlacesShapes.{same_shapes, item_shape}

@@ -1,8 +1,8 @@
 //! Laws of the definitions, each on the contract of a function that does nothing.
 
-ghost use Rattle.rel_show.specs.Laws.{SpelledTokensPlaceABundle};
+ghost use Rattle.rel_show.specs.Laws.{PrintedTextsStand};
 
-/// Tokens that spell a bundle's marks at whatever places are those of a bundle equal but for its places.
-pub fn spelled_tokens_place_a_bundle()
-    ensures { SpelledTokensPlaceABundle }
+/// What is printed for a printable bundle stands for a bundle that differs from it at most in places.
+pub fn a_printed_text_stands_for_its_bundle()
+    ensures { PrintedTextsStand }
 {}
