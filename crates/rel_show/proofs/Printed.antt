@@ -1,5 +1,4 @@
 -- The text that is printed for a bundle stands for one that is equal but for places.
-use Rattle.std.proofs.Common.{◌≡◌}
 use Rattle.rel_show.specs.Laws.{PrintedTextsStand}
 use Rattle.rel_show.proofs.Cutting.{printed_is_cut}
 use Rattle.rel_show.proofs.PlacesItems.{spelled_tokens}
