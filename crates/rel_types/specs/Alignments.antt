@@ -38,7 +38,8 @@ are_linked _ _ = false
 
 abbrev pub flaws_of_link : Scope → Scope → Word → Word → Flaws
 flaws_of_link l r x y = record flawless {
-  unknown = not (is_in_scope x l) || not (is_in_scope y r); wrong_type = not (are_linked (find_variable x l) (find_variable y r));
+  unknown = not (is_in_scope x l) || not (is_in_scope y r);
+  wrong_type = not (are_linked (find_variable x l) (find_variable y r));
 }
 
 module _ (tables : Tables) where

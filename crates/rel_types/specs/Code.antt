@@ -40,7 +40,9 @@ cannot_take i (Some v) = not (fits i v.ty)
 -- a variable that is assigned something of this type
 abbrev pub flaws_of_target : Scope → Word → Inferred → Flaws
 flaws_of_target sc x i = record flawless {
-  unknown = not (is_in_scope x sc); target = cannot_be_assigned (find_variable x sc); wrong_type = cannot_take i (find_variable x sc);
+  unknown = not (is_in_scope x sc);
+  target = cannot_be_assigned (find_variable x sc);
+  wrong_type = cannot_take i (find_variable x sc);
 }
 
 -- a variable that refers to an object of the class

@@ -44,16 +44,31 @@ pub record Flaws : Type 0 where
 
 abbrev pub flawless : Flaws
 flawless = record {
-  twice = false; unknown = false; missing = false; no_main = false; not_visible = false;
-  wrong_arity = false; target = false; old_here = false; not_code = false; wrong_type = false;
+  twice = false;
+  unknown = false;
+  missing = false;
+  no_main = false;
+  not_visible = false;
+  wrong_arity = false;
+  target = false;
+  old_here = false;
+  not_code = false;
+  wrong_type = false;
 }
 
 -- those of either
 abbrev pub either : Flaws → Flaws → Flaws
 either f g = record {
-  twice = f.twice || g.twice; unknown = f.unknown || g.unknown; missing = f.missing || g.missing; no_main = f.no_main || g.no_main;
-  not_visible = f.not_visible || g.not_visible; wrong_arity = f.wrong_arity || g.wrong_arity; target = f.target || g.target;
-  old_here = f.old_here || g.old_here; not_code = f.not_code || g.not_code; wrong_type = f.wrong_type || g.wrong_type;
+  twice = f.twice || g.twice;
+  unknown = f.unknown || g.unknown;
+  missing = f.missing || g.missing;
+  no_main = f.no_main || g.no_main;
+  not_visible = f.not_visible || g.not_visible;
+  wrong_arity = f.wrong_arity || g.wrong_arity;
+  target = f.target || g.target;
+  old_here = f.old_here || g.old_here;
+  not_code = f.not_code || g.not_code;
+  wrong_type = f.wrong_type || g.wrong_type;
 }
 
 -- A bundle is gone over twice: for names that are declared twice, and for every other fault.

@@ -272,12 +272,18 @@ module _ (tables : Tables) where
   -- a formula, where `old` can stand or can't
   abbrev pub flaws_of_formula : Bool → Scope → Formula → Flaws
   flaws_of_formula old sc p = record flawless {
-    twice = binds_twice sc p; unknown = formula_has_unknown sc p; old_here = formula_misplaces_old old p; wrong_type = is_ill_typed sc p;
+    twice = binds_twice sc p;
+    unknown = formula_has_unknown sc p;
+    old_here = formula_misplaces_old old p;
+    wrong_type = is_ill_typed sc p;
   }
 
   abbrev pub flaws_of_rel : Bool → Scope → Scope → RelFormula → Flaws
   flaws_of_rel old l r a = record flawless {
-    twice = rel_binds_twice l r a; unknown = rel_has_unknown l r a; old_here = rel_misplaces_old old a; wrong_type = rel_is_ill_typed l r a;
+    twice = rel_binds_twice l r a;
+    unknown = rel_has_unknown l r a;
+    old_here = rel_misplaces_old old a;
+    wrong_type = rel_is_ill_typed l r a;
   }
 
   abbrev pub flaws_of_test : Scope → Formula → Flaws

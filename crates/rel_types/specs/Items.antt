@@ -84,7 +84,8 @@ is_empty (d ∷ ds) = false
 -- a procedure of a client; its name may not be a method's, and a `main` has no parameters
 abbrev pub flaws_of_client_proc : Option Interface → List Word → Proc → Flaws
 flaws_of_client_proc i seen q = record flawless {
-  twice = is_among q.name seen || is_among q.name (map (λ m. m.name) (methods_of_interface i)); no_main = bytes_eq q.name main_name && not (is_empty q.params);
+  twice = is_among q.name seen || is_among q.name (map (λ m. m.name) (methods_of_interface i));
+  no_main = bytes_eq q.name main_name && not (is_empty q.params);
 }
 
 module _ (tables : Tables) where
@@ -105,7 +106,8 @@ module _ (tables : Tables) where
   -- the variables that an item declares, behind those of its interface
   abbrev pub flaws_of_globals : Scope → List Decl → Flaws
   flaws_of_globals before ds = record flawless {
-    twice = repeats (seen_by_members before) (declared_names ds); unknown = have_unknown_types tables ds;
+    twice = repeats (seen_by_members before) (declared_names ds);
+    unknown = have_unknown_types tables ds;
   }
 
   module _ (pass : Pass) where
@@ -139,7 +141,8 @@ module _ (tables : Tables) where
     abbrev pub module_body_fault : Setting → List Signature → Body → Option Fault
     module_body_fault g callees b =
         first_of (fault_at pass b.at (record flawless {
-          twice = repeats (seen_by_members (globals_of g)) (declared_names (g.parameters ++ g.locals)); unknown = have_unknown_types tables g.locals;
+          twice = repeats (seen_by_members (globals_of g)) (declared_names (g.parameters ++ g.locals));
+          unknown = have_unknown_types tables g.locals;
         }))
         (block_fault tables pass (record { scope = body_scope g; callees = callees; may_call = false }) b.commands)
 
@@ -159,7 +162,7 @@ module _ (tables : Tables) where
     interface_fault more i =
         let sc = interface_globals i in
         first_of (fault_at pass i.at (either more (either (flaws_of_globals [] i.globals)
-          (either (flaws_of_all (flaws_of_place sc) i.boundary) (flaws_of_all (flaws_of_effect sc sc) i.init_writes)))))
+        (either (flaws_of_all (flaws_of_place sc) i.boundary) (flaws_of_all (flaws_of_effect sc sc) i.init_writes)))))
         (first_of (clause_fault true sc i.init_ensures) (first_named (λ q. q.name) (method_fault i) [] i.methods))
 
     abbrev pub unit_fault : Flaws → UnitItem → Option Fault
@@ -172,7 +175,7 @@ module _ (tables : Tables) where
     abbrev pub module_fault : Flaws → Option Interface → Module → Option Fault
     module_fault more i m =
         first_of (fault_at pass m.at (either more (either (flaws_of_globals (globals_of_interface i) m.globals)
-          (record flawless { unknown = is_none i; missing = misses_methods i (map (λ b. b.0) m.methods) }))))
+        (record flawless { unknown = is_none i; missing = misses_methods i (map (λ b. b.0) m.methods) }))))
         (first_of (clause_fault false (globals_of (init_in_module i m)) m.invariant)
         (first_of (module_body_fault (init_in_module i m) (signatures_of i) m.init)
         (first_in (λ b. module_body_fault (method_in_module i m b) (signatures_of i) b.1) m.methods)))
@@ -180,7 +183,7 @@ module _ (tables : Tables) where
     abbrev pub client_fault : Flaws → Option Interface → Client → Option Fault
     client_fault more i c =
         first_of (fault_at pass c.at (either more (either (flaws_of_globals (globals_of_interface i) c.globals)
-          (record flawless { unknown = is_none i; no_main = is_none (find_main c) }))))
+        (record flawless { unknown = is_none i; no_main = is_none (find_main c) }))))
         (first_named (λ q. q.name) (λ seen q. proc_fault (setting_in_client i c q) (callees_in_client i c) (flaws_of_client_proc i seen q) q) [] c.procs)
 
 -- ---- judgements and pairs
@@ -230,7 +233,10 @@ module _ (b : Bundle) (pass : Pass) where
       (first_of (rel_clause_fault (tables_of b) pass false (pre_scope_of_subject l) (pre_scope_of_subject r) j.needs)
       (first_of (rel_clause_fault (tables_of b) pass true (post_scope_of_subject l) (post_scope_of_subject r) j.gives)
       (align_fault (tables_of b) pass (record {
-        left = code_of_subject l; right = code_of_subject r; judgements = judgements_of b.items; units = Some (j.left.0, j.right.0);
+        left = code_of_subject l;
+        right = code_of_subject r;
+        judgements = judgements_of b.items;
+        units = Some (j.left.0, j.right.0);
       }) j.align)))
 
   abbrev pub module_sides : Code → Code → Sides
@@ -240,7 +246,8 @@ module _ (b : Bundle) (pass : Pass) where
   abbrev pub pair_fault : Flaws → Option Module → Option Module → Option Interface → ModulePair → Option Fault
   pair_fault more m n i p =
       first_of (fault_at pass p.at (either more (record flawless {
-        unknown = is_none m || is_none n; missing = differ_in_interface m n || misses_methods i (map (λ a. a.1) p.methods);
+        unknown = is_none m || is_none n;
+        missing = differ_in_interface m n || misses_methods i (map (λ a. a.1) p.methods);
       })))
       (first_of (rel_clause_fault (tables_of b) pass false (globals_of_side i m) (globals_of_side i n) p.coupling)
       (first_of (align_fault (tables_of b) pass (module_sides (init_of_side i m) (init_of_side i n)) p.init.1)

@@ -4,3 +4,4 @@ pub mod Code
 pub mod Alignments
 pub mod Items
 pub mod Laws
+pub mod View

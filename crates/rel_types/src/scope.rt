@@ -1,0 +1,116 @@
+//! What a place can see.
+
+ghost use Rattle.std.specs.Prelude.{◌≡◌, option_map};
+ghost use Rattle.rel_lang.specs.State.{find_variable, find_field};
+ghost use Rattle.rel_types.specs.Inference.{is_class, type_of_variable, type_of_field, type_of_image};
+ghost use Rattle.rel_types.specs.View.{scope_of, variable_of, tables_seen, field_of, inferred_of};
+
+use crate::index::Index;
+use crate::types::{Inferred, Type, typed_where};
+
+/// What is known of a variable.
+#[derive(Clone, Copy)]
+pub(crate) struct Seen<'a> {
+    pub ty: Type<'a>,
+    pub is_assignable: bool,
+}
+
+/// What is known of a field.
+#[derive(Clone, Copy)]
+pub(crate) struct SeenField<'a> {
+    pub class: &'a str,
+    pub ty: Type<'a>,
+}
+
+/// The classes and the fields.
+pub(crate) struct Tables<'a> {
+    pub classes: Index<'a, ()>,
+    pub fields: Index<'a, SeenField<'a>>,
+}
+
+impl<'a> Tables<'a> {
+    #[tactic(auto, using(crate::proofs::Indexes::indexes))]
+    pub fn has_class(&self, name: &str) -> bool
+        ensures { result ≡ is_class (tables_seen self.now) name.now }
+    {
+        self.classes.get(name).is_some()
+    }
+
+    #[tactic(auto, using(crate::proofs::Indexes::indexes))]
+    pub fn field(&self, name: &str) -> Option<SeenField<'a>>
+        ensures { option_map (field_of name.now) result ≡ find_field (tables_seen self.now) name.now }
+    {
+        self.fields.get(name)
+    }
+
+    /// The type of the field of an object of this type.
+    pub fn type_of_field(&self, name: &str, object: Inferred<'_>) -> Inferred<'a>
+        ensures { inferred_of result ≡ type_of_field (find_field (tables_seen self.now) name.now) (inferred_of object.entry) }
+    {
+        match self.field(name) {
+            Some(field) => typed_where(object.fits(Type::Class(field.class)), field.ty),
+            None => Inferred::NoType,
+        }
+    }
+
+    /// The type of the field's image of a region of this type.
+    pub fn type_of_image(&self, name: &str, region: Inferred<'_>) -> Inferred<'a>
+        ensures { inferred_of result ≡ type_of_image (find_field (tables_seen self.now) name.now) (inferred_of region.entry) }
+    {
+        match self.field(name) {
+            Some(field) => {
+                typed_where(
+                    region.fits(Type::Rgn) && !field.ty.is_same(Type::Int),
+                    Type::Rgn,
+                )
+            }
+            None => Inferred::NoType,
+        }
+    }
+}
+
+/// The variables that can be seen, the first of a name counting.
+#[derive(Clone, Copy)]
+pub(crate) enum Scope<'a> {
+    Nothing,
+    /// Variables in front of others.
+    Variables(&'a Index<'a, Seen<'a>>, &'a Scope<'a>),
+    /// A quantified name and its class in front of others.
+    Quantified(&'a str, &'a str, &'a Scope<'a>),
+}
+
+/// The variable of this name.
+#[tactic(auto, using(crate::proofs::Indexes::indexes))]
+pub(crate) fn find<'a>(scope: &Scope<'a>, name: &str) -> Option<Seen<'a>>
+    ensures { option_map (variable_of name.now) result ≡ find_variable name.now (scope_of scope.now) }
+{
+    match scope {
+        Scope::Nothing => None,
+        Scope::Variables(index, rest) => {
+            match index.get(name) {
+                Some(seen) => Some(seen),
+                None => find(*rest, name),
+            }
+        }
+        Scope::Quantified(x, class, rest) => {
+            if *x == name {
+                Some(Seen {
+                    ty: Type::Class(*class),
+                    is_assignable: false,
+                })
+            } else {
+                find(*rest, name)
+            }
+        }
+    }
+}
+
+/// The type of the variable of this name.
+pub(crate) fn type_of_name<'a>(scope: &Scope<'a>, name: &str) -> Inferred<'a>
+    ensures { inferred_of result ≡ type_of_variable (find_variable name.now (scope_of scope.now)) }
+{
+    match find(scope, name) {
+        Some(seen) => Inferred::Exactly(seen.ty),
+        None => Inferred::NoType,
+    }
+}
