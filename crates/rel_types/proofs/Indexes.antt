@@ -1,20 +1,20 @@
 -- Looking up in an index is looking up in the list that it stands for.
-use Rattle.std.proofs.Common.{◌≡◌, ℕ, Bool, true, false, List, [], ◌∷◌, ◌++◌, map, Option, Some, None, option_map, sym, ap, refl, ◌∙◌, rules}
+use Rattle.std.proofs.Common.{◌≡◌, ℕ, Bool, true, false, List, [], ◌∷◌, ◌++◌, map, fold, Option, Some, None, option_map, ◌+◌, ◌<◌, length, get_or, take, sym, ap, refl, ◌∙◌, rules}
 use Rattle.std.specs.Prelude.{bytes_eq, is_some, if◌then◌else◌, ◌||◌, IsTrue, IsSome}
 use Rattle.std.specs.List.{list_any}
 use Rattle.std.specs.Map.{lookup}
 use Rattle.indexmap.specs.IndexMap.{insert_entry}
+use Rattle.std.proofs.lemmas.List.{take_more}
 use Rattle.std.proofs.lemmas.Slice.Eq.{bytes_eq-Decides}
 use denote.Ref.{Bor}
-use denote.Hole.Carrier
 use Rattle.rel_lang.specs.Syntax.{Word}
 use Rattle.rel_lang.specs.State.{find_named, find_variable, Scope, Variable, ClassField}
-use Rattle.rel_types.specs.View.{find_entry, with_entry, field_of, variable_of, scope_of, scope_step}
+use Rattle.rel_lang.specs.Truth.{quantified}
+use Rattle.rel_types.specs.Entries.{find_entry, with_entry, last_first}
+use Rattle.rel_types.specs.View.{field_of, variable_of, declared_of, scope_of}
 use Rattle.rel_types.specs.declared.scope.SeenField.{SeenField}
 use Rattle.rel_types.specs.declared.scope.Seen.{Seen}
 use Rattle.rel_types.specs.declared.scope.Scope as S
-use Rattle.rel_types.specs.declared.scope.Scope.TheViews.{Variables}
-use Rattle.rel_types.specs.declared.scope.Scope.TheFolds.{fold_out-Scope}
 
 -- ---- what `indexmap` finds and adds
 
@@ -64,7 +64,7 @@ found_field x (e ∷ es) =
     ]) refl
 
 -- in front of other variables
-abbrev before : Option Variable → Option Variable → Option Variable
+abbrev pub before : Option Variable → Option Variable → Option Variable
 before None o = o
 before (Some v) o = Some v
 
@@ -78,16 +78,66 @@ found_variable x (e ∷ es) rest =
       | false ↦ λ differs. found_variable x es rest
     ]) refl
 
-pub found_here : (x : Word) (es : List (Word × Seen)) (rest : Scope) (seen : Seen) → Some seen ≡ find_entry x es
-    → Some (variable_of x seen) ≡ find_variable x (map (λ e. variable_of e.0 e.1) es ++ rest)
-found_here x es rest seen e = ap (λ o. before (option_map (variable_of x) o) (find_variable x rest)) e ∙ sym (found_variable x es rest)
+found_quantified : (x : Word) (qs : List (Word × Word)) (rest : Scope)
+    → find_variable x (map (λ q. quantified q.0 q.1) qs ++ rest) ≡ before (option_map (quantified x) (find_entry x qs)) (find_variable x rest)
+found_quantified x [] rest = refl
+found_quantified x (q ∷ qs) rest =
+    (elim (bytes_eq x q.0) as (λ b. bytes_eq x q.0 ≡ b → (if b then Some (quantified q.0 q.1) else find_variable x (map (λ d. quantified d.0 d.1) qs ++ rest))
+        ≡ before (option_map (quantified x) (if b then Some q.1 else find_entry x qs)) (find_variable x rest)) [
+      | true ↦ λ same. ap (λ y. Some (quantified y q.1)) (sym ((bytes_eq-Decides x q.0).0 same))
+      | false ↦ λ differs. found_quantified x qs rest
+    ]) refl
 
-pub found_behind : (x : Word) (es : List (Word × Seen)) (rest : Scope) → None ≡ find_entry x es
-    → find_variable x rest ≡ find_variable x (map (λ e. variable_of e.0 e.1) es ++ rest)
-found_behind x es rest e = ap (λ o. before (option_map (variable_of x) o) (find_variable x rest)) e ∙ sym (found_variable x es rest)
+found_last : (x : Word) (es : List (Word × Seen)) → find_variable x (map (λ e. variable_of e.0 e.1) es) ≡ option_map (variable_of x) (find_entry x es)
+found_last x [] = refl
+found_last x (e ∷ es) =
+    (elim (bytes_eq x e.0) as (λ b. bytes_eq x e.0 ≡ b → (if b then Some (variable_of e.0 e.1) else find_variable x (map (λ d. variable_of d.0 d.1) es))
+        ≡ option_map (variable_of x) (if b then Some e.1 else find_entry x es)) [
+      | true ↦ λ same. ap (λ y. Some (variable_of y e.1)) (sym ((bytes_eq-Decides x e.0).0 same))
+      | false ↦ λ differs. found_last x es
+    ]) refl
 
-pub behind_variables : (index : Bor (List (Word × Seen))) (rest : Bor S.Scope) → scope_of (Variables index rest) ≡ map (λ e. variable_of e.0 e.1) index.now ++ scope_of rest.now
-unfolding S.out-Scope denote.Hole.Carrier.out
-behind_variables index rest = fold_out-Scope Scope scope_step (Variables index rest)
+-- what is found in a scope: a quantified name, else a global, else a variable of the body
+pub in_front : (x : Word) (s : S.Scope) (k : Word) → Some k ≡ find_entry x s.quantified → Some (quantified x k) ≡ find_variable x (scope_of s)
+in_front x s k e =
+    ap (λ o. before (option_map (quantified x) o) (find_variable x (declared_of s))) e ∙ sym (found_quantified x s.quantified (declared_of s))
 
-pub ruleset indexes = (looked_up, added, kept, is_listed, found_field, found_here, found_behind)
+pub behind_quantified : (x : Word) (s : S.Scope) → None ≡ find_entry x s.quantified → find_variable x (declared_of s) ≡ find_variable x (scope_of s)
+behind_quantified x s e =
+    ap (λ o. before (option_map (quantified x) o) (find_variable x (declared_of s))) e ∙ sym (found_quantified x s.quantified (declared_of s))
+
+pub in_globals : (x : Word) (s : S.Scope) (v : Seen) → Some v ≡ find_entry x s.globals → Some (variable_of x v) ≡ find_variable x (declared_of s)
+in_globals x s v e =
+    ap (λ o. before (option_map (variable_of x) o) (find_variable x (map (λ d. variable_of d.0 d.1) s.own))) e
+    ∙ sym (found_variable x s.globals (map (λ d. variable_of d.0 d.1) s.own))
+
+pub in_own : (x : Word) (s : S.Scope) → None ≡ find_entry x s.globals → option_map (variable_of x) (find_entry x s.own) ≡ find_variable x (declared_of s)
+in_own x s e =
+    sym (found_last x s.own)
+    ∙ ap (λ o. before (option_map (variable_of x) o) (find_variable x (map (λ d. variable_of d.0 d.1) s.own))) e
+    ∙ sym (found_variable x s.globals (map (λ d. variable_of d.0 d.1) s.own))
+
+-- ---- quantified names
+
+pub pushed : (qs : List (Bor Word × Bor Word)) (q : Bor Word × Bor Word) → last_first (qs ++ q ∷ []) ≡ (q.0.now, q.1.now) ∷ last_first qs
+pushed qs q = onto qs []
+  where
+    onto : (qs : List (Bor Word × Bor Word)) (done : List (Word × Word))
+        → fold (λ d p. (p.0.now, p.1.now) ∷ d) done (qs ++ q ∷ []) ≡ (q.0.now, q.1.now) ∷ fold (λ d p. (p.0.now, p.1.now) ∷ d) done qs
+    onto [] done = refl
+    onto (p ∷ ps) done = onto ps ((p.0.now, p.1.now) ∷ done)
+
+pub one_more : (qs : List (Bor Word × Bor Word)) (i : ℕ) (d : Bor Word × Bor Word) → i < length qs
+    → last_first (take (i + 1) qs) ≡ ((get_or qs i d).0.now, (get_or qs i d).1.now) ∷ last_first (take i qs)
+one_more qs i d h = ap last_first (take_more qs i d h) ∙ pushed (take i qs) (get_or qs i d)
+
+-- one step of the search for a name
+pub step_found : (x : Word) (qs : List (Bor Word × Bor Word)) (i : ℕ) (d : Bor Word × Bor Word) → i < length qs
+    → bytes_eq x (get_or qs i d).0.now ≡ true → Some (get_or qs i d).1.now ≡ find_entry x (last_first (take (i + 1) qs))
+step_found x qs i d h e = rw (one_more qs i d h, e) refl
+
+pub step_passed : (x : Word) (qs : List (Bor Word × Bor Word)) (i : ℕ) (d : Bor Word × Bor Word) → i < length qs
+    → bytes_eq x (get_or qs i d).0.now ≡ false → find_entry x (last_first (take i qs)) ≡ find_entry x (last_first (take (i + 1) qs))
+step_passed x qs i d h e = rw (one_more qs i d h, e) refl
+
+pub ruleset indexes = (looked_up, added, kept, is_listed, found_field)

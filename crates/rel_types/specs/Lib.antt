@@ -4,4 +4,5 @@ pub mod Code
 pub mod Alignments
 pub mod Items
 pub mod Laws
+pub mod Entries
 pub mod View

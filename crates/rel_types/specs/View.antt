@@ -1,5 +1,5 @@
 -- What the values of the code stand for.
-use Rattle.std.specs.Prelude.{ℕ, List, [], ◌∷◌, ◌++◌, map, Option, Some, None, bytes_eq, if◌then◌else◌}
+use Rattle.std.specs.Prelude.{Bool, not, ◌||◌, List, ◌++◌, map}
 use Rattle.rel_lang.specs.Syntax as syntax
 use Rattle.rel_lang.specs.Syntax.{Word}
 use Rattle.rel_lang.specs.State.{Tables, ClassField, ByQuantifier, Variable, Scope}
@@ -20,7 +20,6 @@ use Rattle.rel_types.specs.declared.scope.Seen as N
 use Rattle.rel_types.specs.declared.scope.SeenField as D
 use Rattle.rel_types.specs.declared.scope.Tables as B
 use Rattle.rel_types.specs.declared.scope.Scope as S
-use Rattle.rel_types.specs.declared.scope.Scope.TheOpen.{Scope-F}
 
 -- ---- faults
 
@@ -57,17 +56,6 @@ flaws_of f = record {
 abbrev pub fault_of : T.Fault → flaws.Fault
 fault_of f = record { kind = kind_of f.kind; at = f.at }
 
--- ---- indexes
-
-abbrev pub find_entry : {V : Type 0} → Word → List (Word × V) → Option V
-find_entry x [] = None
-find_entry x (e ∷ es) = if bytes_eq x e.0 then Some e.1 else find_entry x es
-
--- with this one last, unless the name is there
-abbrev pub with_entry : {V : Type 0} → List (Word × V) → Word → V → List (Word × V)
-with_entry [] x v = (x, v) ∷ []
-with_entry (e ∷ es) x v = if bytes_eq x e.0 then e ∷ es else e ∷ with_entry es x v
-
 -- ---- types, fields and variables
 
 abbrev pub type_seen : Y.Type → syntax.Ty
@@ -90,10 +78,18 @@ tables_seen t = record { classes = map (λ e. e.0) t.classes; fields = map (λ e
 abbrev pub variable_of : Word → N.Seen → Variable
 variable_of x v = record { name = x; owner = ByQuantifier; ty = type_seen v.ty; is_assignable = v.is_assignable }
 
-abbrev pub scope_step : Scope-F Scope → Scope
-scope_step Scope-F.Nothing = []
-scope_step (Scope-F.Variables index rest) = map (λ e. variable_of e.0 e.1) index.now ++ rest.now
-scope_step (Scope-F.Quantified x c rest) = quantified x.now c.now ∷ rest.now
+-- the variables that aren't quantified
+abbrev pub declared_of : S.Scope → Scope
+declared_of s = map (λ e. variable_of e.0 e.1) s.globals ++ map (λ e. variable_of e.0 e.1) s.own
 
 abbrev pub scope_of : S.Scope → Scope
-scope_of = S.fold-Scope Scope scope_step
+scope_of s = map (λ q. quantified q.0 q.1) s.quantified ++ declared_of s
+
+-- what the name, the class and the region of a quantifier have wrong
+abbrev pub binder_flaws : Tables → Bool → Scope → Word → Word → syntax.Expression → flaws.Flaws
+binder_flaws tables old sc x c g = record flaws.flawless {
+  twice = inference.is_in_scope x sc;
+  unknown = not (inference.is_class tables c) || inference.has_unknown tables sc g;
+  old_here = inference.misplaces_old old g;
+  wrong_type = not (inference.fits (inference.infer tables sc g) syntax.Rgn);
+}

@@ -6,16 +6,16 @@ ghost use Rattle.rel_lang.specs.View.{expression_of};
 ghost use Rattle.rel_types.specs.Inference as inference;
 ghost use Rattle.rel_types.specs.View.{scope_of, tables_seen, inferred_of};
 
-use crate::scope::{Scope, Tables, find, type_of_name};
+use crate::scope::{Scope, Tables};
 use crate::types::{Inferred, Type, typed_where};
 use rel_lang::expr::Expr;
 
 /// Whether a variable, a field or a class isn't declared.
-pub(crate) fn has_unknown<'a>(tables: &Tables<'a>, scope: &Scope<'a>, e: &Expr) -> bool
+pub(crate) fn has_unknown(tables: &Tables<'_>, scope: &Scope<'_>, e: &Expr) -> bool
     ensures { result ≡ inference.has_unknown (tables_seen tables.now) (scope_of scope.now) (expression_of e.now) }
 {
     match e {
-        Expr::Var(x) => find(scope, x.as_str()).is_none(),
+        Expr::Var(x) => scope.find(x.as_str()).is_none(),
         Expr::Num(_) | Expr::Null | Expr::Empty | Expr::Alloc => false,
         Expr::Add(a, b)
         | Expr::Sub(a, b)
@@ -56,7 +56,7 @@ pub(crate) fn infer<'a>(tables: &Tables<'a>, scope: &Scope<'a>, e: &Expr) -> Inf
     ensures { inferred_of result ≡ inference.infer (tables_seen tables.now) (scope_of scope.now) (expression_of e.now) }
 {
     match e {
-        Expr::Var(x) => type_of_name(scope, x.as_str()),
+        Expr::Var(x) => scope.type_of(x.as_str()),
         Expr::Num(_) => Inferred::Exactly(Type::Int),
         Expr::Null => Inferred::AnyClass,
         Expr::Empty | Expr::Alloc => Inferred::Exactly(Type::Rgn),

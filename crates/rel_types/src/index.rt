@@ -1,7 +1,7 @@
 //! Names in order of declaration, each with what is known of it.
 
 ghost use Rattle.std.specs.Prelude.{◌≡◌, [], OnOk};
-ghost use Rattle.rel_types.specs.View.{find_entry, with_entry};
+ghost use Rattle.rel_types.specs.Entries.{find_entry, with_entry};
 
 use indexmap::IndexMap;
 use rel_list::Memory;

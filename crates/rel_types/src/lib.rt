@@ -1,7 +1,9 @@
 //! Types a bundle, or says which fault it has first and where.
 #![tactic(auto)]
 
+mod binders;
 mod expression;
+mod formula;
 mod index;
 mod kind;
 pub mod laws;

@@ -3,8 +3,9 @@
 ghost use Rattle.std.specs.Prelude.{◌≡◌, option_map};
 ghost use Rattle.rel_lang.specs.State.{find_variable, find_field};
 ghost use Rattle.rel_types.specs.Inference.{is_class, type_of_variable, type_of_field, type_of_image};
-ghost use Rattle.rel_types.specs.View.{scope_of, variable_of, tables_seen, field_of, inferred_of};
+ghost use Rattle.rel_types.specs.View.{scope_of, declared_of, variable_of, tables_seen, field_of, inferred_of};
 
+use crate::binders::Binders;
 use crate::index::Index;
 use crate::types::{Inferred, Type, typed_where};
 
@@ -69,48 +70,44 @@ impl<'a> Tables<'a> {
     }
 }
 
-/// The variables that can be seen, the first of a name counting.
-#[derive(Clone, Copy)]
-pub(crate) enum Scope<'a> {
-    Nothing,
-    /// Variables in front of others.
-    Variables(&'a Index<'a, Seen<'a>>, &'a Scope<'a>),
-    /// A quantified name and its class in front of others.
-    Quantified(&'a str, &'a str, &'a Scope<'a>),
+/// The variables that can be seen, the first of a name counting: quantified ones, then globals, then those of a body.
+pub(crate) struct Scope<'a> {
+    pub quantified: Binders<'a>,
+    pub globals: Index<'a, Seen<'a>>,
+    pub own: Index<'a, Seen<'a>>,
 }
 
-/// The variable of this name.
-#[tactic(auto, using(crate::proofs::Indexes::indexes))]
-pub(crate) fn find<'a>(scope: &Scope<'a>, name: &str) -> Option<Seen<'a>>
-    ensures { option_map (variable_of name.now) result ≡ find_variable name.now (scope_of scope.now) }
-{
-    match scope {
-        Scope::Nothing => None,
-        Scope::Variables(index, rest) => {
-            match index.get(name) {
-                Some(seen) => Some(seen),
-                None => find(*rest, name),
-            }
-        }
-        Scope::Quantified(x, class, rest) => {
-            if *x == name {
-                Some(Seen {
-                    ty: Type::Class(*class),
-                    is_assignable: false,
-                })
-            } else {
-                find(*rest, name)
-            }
+impl<'a> Scope<'a> {
+    /// The variable of this name.
+    pub fn find(&self, name: &str) -> Option<Seen<'a>>
+        ensures { option_map (variable_of name.now) result ≡ find_variable name.now (scope_of self.now) }
+    {
+        match self.quantified.find(name) {
+            Some(class) => Some(Seen {
+                ty: Type::Class(class),
+                is_assignable: false,
+            }),
+            None => self.find_declared(name),
         }
     }
-}
 
-/// The type of the variable of this name.
-pub(crate) fn type_of_name<'a>(scope: &Scope<'a>, name: &str) -> Inferred<'a>
-    ensures { inferred_of result ≡ type_of_variable (find_variable name.now (scope_of scope.now)) }
-{
-    match find(scope, name) {
-        Some(seen) => Inferred::Exactly(seen.ty),
-        None => Inferred::NoType,
+    // The variable of this name that isn't quantified.
+    fn find_declared(&self, name: &str) -> Option<Seen<'a>>
+        ensures { option_map (variable_of name.now) result ≡ find_variable name.now (declared_of self.now) }
+    {
+        match self.globals.get(name) {
+            Some(seen) => Some(seen),
+            None => self.own.get(name),
+        }
+    }
+
+    /// The type of the variable of this name.
+    pub fn type_of(&self, name: &str) -> Inferred<'a>
+        ensures { inferred_of result ≡ type_of_variable (find_variable name.now (scope_of self.now)) }
+    {
+        match self.find(name) {
+            Some(seen) => Inferred::Exactly(seen.ty),
+            None => Inferred::NoType,
+        }
     }
 }
