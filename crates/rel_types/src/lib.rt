@@ -7,5 +7,7 @@ mod formula;
 mod index;
 mod kind;
 pub mod laws;
+mod relation;
 mod scope;
 mod types;
+mod uses;
