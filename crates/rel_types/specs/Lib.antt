@@ -6,3 +6,4 @@ pub mod Items
 pub mod Laws
 pub mod Entries
 pub mod View
+pub mod CodeView

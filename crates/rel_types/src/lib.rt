@@ -2,6 +2,7 @@
 #![tactic(auto)]
 
 mod binders;
+mod code;
 mod expression;
 mod formula;
 mod index;
