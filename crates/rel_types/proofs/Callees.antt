@@ -1,7 +1,8 @@
 -- Looking up a callee, and the arguments of a call.
 use Rattle.std.proofs.Common.{◌≡◌, ℕ, zero, suc, ◌+◌, ◌<◌, ◌≤◌, Bool, true, false, List, [], ◌∷◌, map, length, get_or, drop, Option, Some, None, option_map, sym, ap, refl, ◌∙◌, rules}
-use Rattle.std.specs.Prelude.{bytes_eq, if◌then◌else◌}
+use Rattle.std.specs.Prelude.{bytes_eq, ◌==◌, if◌then◌else◌}
 use Rattle.std.proofs.Math.Seq.{drop-cons}
+use Rattle.std.proofs.lemmas.List.{length-map}
 use Rattle.std.proofs.lemmas.Slice.Eq.{bytes_eq-Decides}
 use Rattle.rel_lang.specs.Syntax.{Word, Expression, Decl}
 use Rattle.rel_lang.specs.State.{find_named, Tables, Scope}
@@ -48,3 +49,6 @@ one_more_argument tables sc es ds i d h =
     ∙ one_argument tables sc (expression_of (get_or es i d)) (map expression_of (drop (suc i) es)) (map decl_of (drop i ds))
     ∙ ap (λ l. either (argument_flaws tables sc (expression_of (get_or es i d)) (map decl_of (drop i ds))) (flaws_of_arguments tables sc (map expression_of (drop (suc i) es)) l))
       (front_of_map decl_of (drop i ds) ∙ ap (map decl_of) (front_of_drop i ds)))
+
+pub same_lengths : (es : List E.Expr) (ds : List D.Decl) → (length (map expression_of es) == length (map decl_of ds)) ≡ (length es == length ds)
+same_lengths es ds = simp length-map

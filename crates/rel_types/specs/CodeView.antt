@@ -1,10 +1,11 @@
 -- What the values of the code that goes over commands stand for.
-use Rattle.std.specs.Prelude.{List, [], ◌∷◌, map, not}
+use Rattle.std.specs.Prelude.{Bool, ◌||◌, ◌==◌, length, bytes_eq, List, [], ◌∷◌, map, not}
 use Rattle.rel_lang.specs.Syntax.{Word, Expression, Decl, Class}
 use Rattle.rel_lang.specs.State.{Tables, Scope}
+use Rattle.rel_lang.specs.Lookup.{main_name}
 use Rattle.rel_lang.specs.Typed.{Signature}
 use Rattle.rel_lang.specs.View.{decl_of}
-use Rattle.rel_types.specs.Flaws.{Flaws, either}
+use Rattle.rel_types.specs.Flaws.{Flaws, flawless, either}
 use Rattle.rel_types.specs.Inference.{Exactly, infer, is_class, flaws_of_code, flaws_of_value}
 use Rattle.rel_types.specs.Code as code
 use Rattle.rel_types.specs.View.{type_seen, scope_of}
@@ -28,3 +29,7 @@ module _ (tables : Tables) where
   abbrev pub argument_flaws : Scope → Expression → List Decl → Flaws
   argument_flaws sc e [] = flaws_of_code tables sc e
   argument_flaws sc e (d ∷ ds) = flaws_of_value tables sc e d.ty
+
+-- of a call of a known procedure or method, its target and its arguments apart
+abbrev pub call_flaws : Bool → Word → List Expression → List Decl → Flaws
+call_flaws may_call p es ds = record flawless { not_visible = not may_call || bytes_eq p main_name; wrong_arity = not (length es == length ds) }
