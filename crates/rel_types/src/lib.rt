@@ -2,6 +2,7 @@
 #![tactic(auto)]
 
 mod binders;
+mod block;
 mod code;
 mod expression;
 mod formula;
