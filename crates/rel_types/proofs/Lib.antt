@@ -1,3 +1,4 @@
 pub mod Indexes
 pub mod Callees
 pub mod Firsts
+pub mod Judgements

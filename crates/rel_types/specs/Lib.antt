@@ -7,3 +7,4 @@ pub mod Laws
 pub mod Entries
 pub mod View
 pub mod CodeView
+pub mod AlignmentView

@@ -2,6 +2,7 @@
 #![tactic(auto)]
 
 mod binders;
+mod biforms;
 mod block;
 mod code;
 mod expression;
@@ -11,5 +12,6 @@ mod kind;
 pub mod laws;
 mod relation;
 mod scope;
+mod sides;
 mod types;
 mod uses;
