@@ -2,3 +2,4 @@ pub mod Indexes
 pub mod Callees
 pub mod Firsts
 pub mod Judgements
+pub mod BiFirsts

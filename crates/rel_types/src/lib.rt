@@ -1,6 +1,7 @@
 //! Types a bundle, or says which fault it has first and where.
 #![tactic(auto)]
 
+mod alignment;
 mod binders;
 mod biforms;
 mod block;
