@@ -3,3 +3,4 @@ pub mod Callees
 pub mod Firsts
 pub mod Judgements
 pub mod BiFirsts
+pub mod SameSubjects

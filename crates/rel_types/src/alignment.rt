@@ -19,7 +19,12 @@ use rel_lang::command::Command;
 use rel_list::{List, Memory};
 
 /// One command that runs on both sides.
-fn joint_fault<'a>(tables: &Tables<'a>, pass: Pass, s: &mut Sides<'a, '_>, command: &'a Command) -> Result<Option<Fault>, Memory>
+fn joint_fault<'a>(
+    tables: &Tables<'a>,
+    pass: Pass,
+    s: &mut Sides<'a, '_>,
+    command: &'a Command,
+) -> Result<Option<Fault>, Memory>
     ensures fault { IfOk result (λ f. option_map fault_of f
         ≡ alignments.joint_fault (tables_seen tables.now) (pass_of pass) (sides_of s.old) (command_of command.now)) }
     ensures sides { IfOk result (λ f. s.new ≡ s.old) }
@@ -45,7 +50,7 @@ fn split_fault<'a>(
 ) -> Result<Option<Fault>, Memory>
     ensures fault { IfOk result (λ f. option_map fault_of f
         ≡ first_of (block_fault_in (tables_seen tables.now) (pass_of pass) (sides_of s.old).left (block_of left.now))
-          (block_fault_in (tables_seen tables.now) (pass_of pass) (sides_of s.old).right (block_of right.now))) }
+        (block_fault_in (tables_seen tables.now) (pass_of pass) (sides_of s.old).right (block_of right.now))) }
     ensures sides { IfOk result (λ f. s.new ≡ s.old) }
 {
     match block_fault(tables, pass, &mut s.left, left)? {
@@ -56,7 +61,12 @@ fn split_fault<'a>(
 
 /// The first fault of a bicommand, which comes before those of its blocks.
 #[cycle(biblock_fault)]
-fn bicommand_fault<'a>(tables: &Tables<'a>, pass: Pass, s: &mut Sides<'a, '_>, command: &'a BiCommand) -> Result<Option<Fault>, Memory>
+fn bicommand_fault<'a>(
+    tables: &Tables<'a>,
+    pass: Pass,
+    s: &mut Sides<'a, '_>,
+    command: &'a BiCommand,
+) -> Result<Option<Fault>, Memory>
     ensures fault { IfOk result (λ f. option_map fault_of f
         ≡ alignments.bicommand_fault (tables_seen tables.now) (pass_of pass) (sides_of s.old) (bicommand_of command.now)) }
     ensures sides { IfOk result (λ f. s.new ≡ s.old) }
@@ -69,14 +79,21 @@ fn bicommand_fault<'a>(tables: &Tables<'a>, pass: Pass, s: &mut Sides<'a, '_>, c
 
 /// The first fault of the commands and blocks of a bicommand.
 #[cycle(biblock_fault)]
-fn inner_bifault<'a>(tables: &Tables<'a>, pass: Pass, s: &mut Sides<'a, '_>, form: &'a BiForm) -> Result<Option<Fault>, Memory>
+fn inner_bifault<'a>(
+    tables: &Tables<'a>,
+    pass: Pass,
+    s: &mut Sides<'a, '_>,
+    form: &'a BiForm,
+) -> Result<Option<Fault>, Memory>
     ensures fault { IfOk result (λ f. option_map fault_of f
         ≡ alignments.inner_bifault (tables_seen tables.now) (pass_of pass) (sides_of s.old) (biform_of form.now)) }
     ensures sides { IfOk result (λ f. s.new ≡ s.old) }
 {
     match form {
         BiForm::Split(left, right) => split_fault(tables, pass, s, left, right),
-        BiForm::Sync(command) | BiForm::SyncCall(command, _) => joint_fault(tables, pass, s, command),
+        BiForm::Sync(command) | BiForm::SyncCall(command, _) => joint_fault(
+            tables, pass, s, command,
+        ),
         BiForm::If(_, _, yes, no) => match biblock_fault(tables, pass, s, yes)? {
             Some(fault) => Ok(Some(fault)),
             None => biblock_fault(tables, pass, s, no),
@@ -88,7 +105,12 @@ fn inner_bifault<'a>(tables: &Tables<'a>, pass: Pass, s: &mut Sides<'a, '_>, for
 
 /// The first fault of a block of bicommands.
 #[cycle(biblock_fault)]
-fn biblock_fault<'a>(tables: &Tables<'a>, pass: Pass, s: &mut Sides<'a, '_>, commands: &'a List<BiCommand>) -> Result<Option<Fault>, Memory>
+fn biblock_fault<'a>(
+    tables: &Tables<'a>,
+    pass: Pass,
+    s: &mut Sides<'a, '_>,
+    commands: &'a List<BiCommand>,
+) -> Result<Option<Fault>, Memory>
     ensures fault { IfOk result (λ f. option_map fault_of f
         ≡ alignments.biblock_fault (tables_seen tables.now) (pass_of pass) (sides_of s.old) (biblock_of commands.now)) }
     ensures sides { IfOk result (λ f. s.new ≡ s.old) }
@@ -103,7 +125,12 @@ fn biblock_fault<'a>(tables: &Tables<'a>, pass: Pass, s: &mut Sides<'a, '_>, com
 }
 
 /// The first fault of the steps of a weaving.
-fn steps_fault<'a>(tables: &Tables<'a>, pass: Pass, s: &mut Sides<'a, '_>, steps: &'a List<WeaveStep>) -> Result<Option<Fault>, Memory>
+fn steps_fault<'a>(
+    tables: &Tables<'a>,
+    pass: Pass,
+    s: &mut Sides<'a, '_>,
+    steps: &'a List<WeaveStep>,
+) -> Result<Option<Fault>, Memory>
     ensures fault { IfOk result (λ f. option_map fault_of f
         ≡ first_in (alignments.step_fault (tables_seen tables.now) (pass_of pass) (sides_of s.old)) (map weave_step_of steps.now)) }
     ensures sides { IfOk result (λ f. s.new ≡ s.old) }
@@ -118,7 +145,12 @@ fn steps_fault<'a>(tables: &Tables<'a>, pass: Pass, s: &mut Sides<'a, '_>, steps
 }
 
 /// The first fault of an alignment.
-pub(crate) fn align_fault<'a>(tables: &Tables<'a>, pass: Pass, s: &mut Sides<'a, '_>, align: &'a Align) -> Result<Option<Fault>, Memory>
+pub(crate) fn align_fault<'a>(
+    tables: &Tables<'a>,
+    pass: Pass,
+    s: &mut Sides<'a, '_>,
+    align: &'a Align,
+) -> Result<Option<Fault>, Memory>
     ensures fault { IfOk result (λ f. option_map fault_of f
         ≡ alignments.align_fault (tables_seen tables.now) (pass_of pass) (sides_of s.old) (align_of align.now)) }
     ensures sides { IfOk result (λ f. s.new ≡ s.old) }

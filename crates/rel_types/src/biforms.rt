@@ -37,7 +37,11 @@ fn flaws_of_link(left: &Scope<'_>, right: &Scope<'_>, x: &str, y: &str) -> Flaws
 }
 
 /// A relational invariant, a guard or a note.
-fn flaws_of_relation<'a>(tables: &Tables<'a>, s: &mut Sides<'a, '_>, a: &'a RelFormula) -> Result<Flaws, Memory>
+fn flaws_of_relation<'a>(
+    tables: &Tables<'a>,
+    s: &mut Sides<'a, '_>,
+    a: &'a RelFormula,
+) -> Result<Flaws, Memory>
     ensures flaws { IfOk result (λ f. flaws_of f ≡ alignments.flaws_of_relation (tables_seen tables.now) (sides_of s.old) (rel_of a.now)) }
     ensures sides { IfOk result (λ f. s.new ≡ s.old) }
 {
@@ -54,8 +58,8 @@ fn flaws_of_relations<'a>(
 ) -> Result<Flaws, Memory>
     ensures flaws { IfOk result (λ f. flaws_of f
         ≡ either_of (alignments.flaws_of_relation (tables_seen tables.now) (sides_of s.old) (rel_of relation.now))
-          (either_of (alignments.flaws_of_relation (tables_seen tables.now) (sides_of s.old) (rel_of left.now))
-            (alignments.flaws_of_relation (tables_seen tables.now) (sides_of s.old) (rel_of right.now)))) }
+        (either_of (alignments.flaws_of_relation (tables_seen tables.now) (sides_of s.old) (rel_of left.now))
+        (alignments.flaws_of_relation (tables_seen tables.now) (sides_of s.old) (rel_of right.now)))) }
     ensures sides { IfOk result (λ f. s.new ≡ s.old) }
 {
     let relation = flaws_of_relation(tables, s, relation)?;
@@ -64,7 +68,12 @@ fn flaws_of_relations<'a>(
     Ok(relation.either(left.either(right)))
 }
 
-fn flaws_of_tests<'a>(tables: &Tables<'a>, s: &mut Sides<'a, '_>, p: &'a Formula, q: &'a Formula) -> Result<Flaws, Memory>
+fn flaws_of_tests<'a>(
+    tables: &Tables<'a>,
+    s: &mut Sides<'a, '_>,
+    p: &'a Formula,
+    q: &'a Formula,
+) -> Result<Flaws, Memory>
     ensures flaws { IfOk result (λ f. flaws_of f ≡ alignments.flaws_of_tests (tables_seen tables.now) (sides_of s.old) (formula_of p.now) (formula_of q.now)) }
     ensures sides { IfOk result (λ f. s.new ≡ s.old) }
 {
@@ -74,10 +83,15 @@ fn flaws_of_tests<'a>(tables: &Tables<'a>, s: &mut Sides<'a, '_>, p: &'a Formula
 }
 
 /// The invariants of the two sides of a loop.
-fn flaws_of_invariants<'a>(tables: &Tables<'a>, s: &mut Sides<'a, '_>, p: &'a Formula, q: &'a Formula) -> Result<Flaws, Memory>
+fn flaws_of_invariants<'a>(
+    tables: &Tables<'a>,
+    s: &mut Sides<'a, '_>,
+    p: &'a Formula,
+    q: &'a Formula,
+) -> Result<Flaws, Memory>
     ensures flaws { IfOk result (λ f. flaws_of f
         ≡ either_of (flaws_of_formula_in (tables_seen tables.now) true (sides_of s.old).left.scope (formula_of p.now))
-          (flaws_of_formula_in (tables_seen tables.now) true (sides_of s.old).right.scope (formula_of q.now))) }
+        (flaws_of_formula_in (tables_seen tables.now) true (sides_of s.old).right.scope (formula_of q.now))) }
     ensures sides { IfOk result (λ f. s.new ≡ s.old) }
 {
     let left = flaws_of_formula(tables, &mut s.left.scope, true, p)?;
@@ -85,7 +99,11 @@ fn flaws_of_invariants<'a>(tables: &Tables<'a>, s: &mut Sides<'a, '_>, p: &'a Fo
     Ok(left.either(right))
 }
 
-fn flaws_of_loop<'a>(tables: &Tables<'a>, s: &mut Sides<'a, '_>, l: &'a BiLoop) -> Result<Flaws, Memory>
+fn flaws_of_loop<'a>(
+    tables: &Tables<'a>,
+    s: &mut Sides<'a, '_>,
+    l: &'a BiLoop,
+) -> Result<Flaws, Memory>
     ensures flaws { IfOk result (λ f. flaws_of f ≡ alignments.flaws_of_loop (tables_seen tables.now) (sides_of s.old) (loop_of l.now)) }
     ensures sides { IfOk result (λ f. s.new ≡ s.old) }
 {
@@ -105,22 +123,38 @@ fn unknown_where(holds: bool) -> Flaws
 }
 
 /// What a bicommand has wrong, its commands and blocks apart.
-pub(crate) fn flaws_of_biform<'a>(tables: &Tables<'a>, s: &mut Sides<'a, '_>, form: &'a BiForm) -> Result<Flaws, Memory>
+pub(crate) fn flaws_of_biform<'a>(
+    tables: &Tables<'a>,
+    s: &mut Sides<'a, '_>,
+    form: &'a BiForm,
+) -> Result<Flaws, Memory>
     ensures flaws { IfOk result (λ f. flaws_of f ≡ alignments.flaws_of_biform (tables_seen tables.now) (sides_of s.old) (biform_of form.now)) }
     ensures sides { IfOk result (λ f. s.new ≡ s.old) }
 {
     match form {
         BiForm::Split(_, _) | BiForm::Sync(_) => Ok(Flaws::none()),
-        BiForm::SyncCall(call, judgement) => Ok(unknown_where(!s.is_call_by(judgement.as_str(), call))),
+        BiForm::SyncCall(call, judgement) => Ok(unknown_where(!s.is_call_by(
+            judgement.as_str(),
+            call,
+        ))),
         BiForm::If(p, q, _, _) => flaws_of_tests(tables, s, p, q),
         BiForm::While(head, _) => flaws_of_loop(tables, s, head),
-        BiForm::Link(x, y) => Ok(flaws_of_link(&s.left.scope, &s.right.scope, x.as_str(), y.as_str())),
+        BiForm::Link(x, y) => Ok(flaws_of_link(
+            &s.left.scope,
+            &s.right.scope,
+            x.as_str(),
+            y.as_str(),
+        )),
         BiForm::Note(a) => flaws_of_relation(tables, s, a),
     }
 }
 
 /// What a step of a weaving has wrong.
-pub(crate) fn flaws_of_act<'a>(tables: &Tables<'a>, s: &mut Sides<'a, '_>, act: &'a Act) -> Result<Flaws, Memory>
+pub(crate) fn flaws_of_act<'a>(
+    tables: &Tables<'a>,
+    s: &mut Sides<'a, '_>,
+    act: &'a Act,
+) -> Result<Flaws, Memory>
     ensures flaws { IfOk result (λ f. flaws_of f ≡ alignments.flaws_of_act (tables_seen tables.now) (sides_of s.old) (act_of act.now)) }
     ensures sides { IfOk result (λ f. s.new ≡ s.old) }
 {

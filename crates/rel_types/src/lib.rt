@@ -2,8 +2,8 @@
 #![tactic(auto)]
 
 mod alignment;
-mod binders;
 mod biforms;
+mod binders;
 mod block;
 mod code;
 mod expression;

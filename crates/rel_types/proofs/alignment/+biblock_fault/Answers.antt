@@ -44,10 +44,10 @@ inner_bifault-returns-in-None-clause-fault t c =
     let pass = pass_of c.args.pass in
     let no = c.in-If.no in
     let same = ap (λ k. biblock_fault tables pass (sides_of k) (biblock_of no)) c.in_ok-fault-in-If.ensures.sides
-        ∙ biif_none tables pass (sides_of c.args.s.now) c.in-If.field-0 c.in-If.field-1 c.in-If.yes no c.args.form.now c.in-If.is
-          (sym (ap (option_map fault_of) c.in-None.is) ∙ c.in_ok-fault-in-If.ensures.fault) in
+    ∙ biif_none tables pass (sides_of c.args.s.now) c.in-If.field-0 c.in-If.field-1 c.in-If.yes no c.args.form.now c.in-If.is
+    (sym (ap (option_map fault_of) c.in-None.is) ∙ c.in_ok-fault-in-If.ensures.fault) in
     IfOk-weaker c.biblock_fault-in-None.result
-      (λ f. option_map fault_of f ≡ biblock_fault tables pass (sides_of c.biblock_fault.new.s) (biblock_of no)) _ (λ f e. e ∙ same) c.biblock_fault-in-None.ensures.fault
+    (λ f. option_map fault_of f ≡ biblock_fault tables pass (sides_of c.biblock_fault.new.s) (biblock_of no)) _ (λ f e. e ∙ same) c.biblock_fault-in-None.ensures.fault
 
 pub inner_bifault-returns-in-While-clause-fault : goal.inner_bifault-returns-in-While-clause-fault
 inner_bifault-returns-in-While-clause-fault t c =
@@ -55,4 +55,4 @@ inner_bifault-returns-in-While-clause-fault t c =
     let pass = pass_of c.args.pass in
     let same = in_biwhile tables pass (sides_of c.args.s.now) c.in-While.field-0 c.in-While.body c.args.form.now c.in-While.is in
     IfOk-weaker c.biblock_fault-in-While.result
-      (λ f. option_map fault_of f ≡ biblock_fault tables pass (sides_of c.args.s.now) (biblock_of c.in-While.body)) _ (λ f e. e ∙ same) c.biblock_fault-in-While.ensures.fault
+    (λ f. option_map fault_of f ≡ biblock_fault tables pass (sides_of c.args.s.now) (biblock_of c.in-While.body)) _ (λ f e. e ∙ same) c.biblock_fault-in-While.ensures.fault

@@ -44,10 +44,10 @@ inner_fault-returns-in-None-clause-fault t c =
     let pass = pass_of c.args.pass in
     let no = c.in-If.no in
     let same = ap (λ k. block_fault tables pass (code_of k) (block_of no)) c.in_ok-fault-in-If.ensures.code
-        ∙ if_none tables pass (code_of c.args.code.now) c.in-If.field-0 c.in-If.yes no c.args.form.now c.in-If.is
-          (sym (ap (option_map fault_of) c.in-None.is) ∙ c.in_ok-fault-in-If.ensures.fault) in
+    ∙ if_none tables pass (code_of c.args.code.now) c.in-If.field-0 c.in-If.yes no c.args.form.now c.in-If.is
+    (sym (ap (option_map fault_of) c.in-None.is) ∙ c.in_ok-fault-in-If.ensures.fault) in
     IfOk-weaker c.block_fault-in-None.result
-      (λ f. option_map fault_of f ≡ block_fault tables pass (code_of c.block_fault.new.code) (block_of no)) _ (λ f e. e ∙ same) c.block_fault-in-None.ensures.fault
+    (λ f. option_map fault_of f ≡ block_fault tables pass (code_of c.block_fault.new.code) (block_of no)) _ (λ f e. e ∙ same) c.block_fault-in-None.ensures.fault
 
 pub inner_fault-returns-in-While-clause-fault : goal.inner_fault-returns-in-While-clause-fault
 inner_fault-returns-in-While-clause-fault t c =
@@ -55,4 +55,4 @@ inner_fault-returns-in-While-clause-fault t c =
     let pass = pass_of c.args.pass in
     let same = in_while tables pass (code_of c.args.code.now) c.in-While.field-0 c.in-While.field-1 c.in-While.body c.args.form.now c.in-While.is in
     IfOk-weaker c.block_fault-in-While.result
-      (λ f. option_map fault_of f ≡ block_fault tables pass (code_of c.args.code.now) (block_of c.in-While.body)) _ (λ f e. e ∙ same) c.block_fault-in-While.ensures.fault
+    (λ f. option_map fault_of f ≡ block_fault tables pass (code_of c.args.code.now) (block_of c.in-While.body)) _ (λ f e. e ∙ same) c.block_fault-in-While.ensures.fault
