@@ -4,3 +4,7 @@ pub mod Code
 pub mod Alignments
 pub mod Items
 pub mod Laws
+pub mod Entries
+pub mod View
+pub mod CodeView
+pub mod AlignmentView

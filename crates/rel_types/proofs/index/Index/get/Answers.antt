@@ -1,0 +1,6 @@
+use Rattle.std.proofs.Common.{◌≡◌}
+use Rattle.rel_types.proofs.Indexes.{looked_up}
+use Rattle.rel_types.proofs.index.Index.get.Goals as goal
+
+pub returns : goal.returns
+returns g c = let e = looked_up c.args.name.now c.self.inside.entries.entries in cc
