@@ -1,2 +1,4 @@
 pub mod Indexes
 pub mod Callees
+pub mod Knowledge
+pub mod Lookups

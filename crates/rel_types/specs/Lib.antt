@@ -5,5 +5,6 @@ pub mod Alignments
 pub mod Items
 pub mod Laws
 pub mod Entries
+pub mod Lookups
 pub mod View
 pub mod CodeView

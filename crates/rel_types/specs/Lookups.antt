@@ -1,0 +1,25 @@
+-- When two scopes give the same for each name, and code and alignments know the same.
+use Rattle.std.specs.Prelude.{◌≡◌, Option, option_map}
+use Rattle.rel_lang.specs.Syntax.{Word}
+use Rattle.rel_lang.specs.State.{ByQuantifier, Variable, Scope, find_variable}
+use Rattle.rel_lang.specs.Lookup.{find_judgement}
+use Rattle.rel_types.specs.Code.{Code, find_callee}
+use Rattle.rel_types.specs.Alignments.{Sides}
+
+-- the variable, whoever owns it
+abbrev pub without_owner : Variable → Variable
+without_owner v = record v { owner = ByQuantifier }
+
+abbrev pub SameLookups : Scope → Scope → Type 0
+SameLookups sc sd = (x : Word) → option_map without_owner (find_variable x sc) ≡ option_map without_owner (find_variable x sd)
+
+pub record SameCode (c d : Code) : Type 0 where
+  pub scope : SameLookups c.scope d.scope
+  pub callees : (p : Word) → find_callee p c ≡ find_callee p d
+  pub may_call : c.may_call ≡ d.may_call
+
+pub record SameSides (s t : Sides) : Type 0 where
+  pub left : SameCode s.left t.left
+  pub right : SameCode s.right t.right
+  pub judgements : (j : Word) → find_judgement j s.judgements ≡ find_judgement j t.judgements
+  pub units : s.units ≡ t.units
