@@ -1,12 +1,12 @@
 -- Code and alignments have the same faults where they know the same.
-use Rattle.std.proofs.Common.{◌≡◌, ℕ, Bool, true, false, not, ◌&&◌, ◌||◌, ◌==◌, List, [], ◌∷◌, length, Option, Some, None, option_map, refl, sym, ap, ap₂, ◌∙◌}
+use Rattle.std.proofs.Common.{◌≡◌, Bool, true, not, ◌||◌, ◌==◌, List, [], ◌∷◌, length, Option, Some, None, option_map, refl, sym, ap, ap₂, ◌∙◌}
 use Rattle.std.specs.Prelude.{bytes_eq, is_some}
-use Rattle.rel_lang.specs.Syntax.{Word, Ty, Class, Expression, Formula, RelFormula, Command, At, Form, Skip, Assign, Load, Store, New, Call, If, While, Block, End, Then, Decl, BiLoop, BiCommand, BiAt, BiForm, Split, Sync, SyncCall, BiIf, BiWhile, Link, Note, BiBlock, BiEnd, BiThen, Judgement, Act, ActSeq, ActSync, ActCall, ActIf, ActWhile, ActLink, ActNote, ActDrop, WeaveStep, Align, Given, Woven}
+use Rattle.rel_lang.specs.Syntax.{Word, Class, Expression, Formula, RelFormula, Command, At, Form, Skip, Assign, Load, Store, New, Call, If, While, Block, End, Then, Decl, BiLoop, BiCommand, BiAt, BiForm, Split, Sync, SyncCall, BiIf, BiWhile, Link, Note, BiBlock, BiEnd, BiThen, Judgement, Act, ActSeq, ActSync, ActCall, ActIf, ActWhile, ActLink, ActNote, ActDrop, Align, Given, Woven}
 use Rattle.rel_lang.specs.State.{Tables, ClassField, find_field, Scope, Variable, find_variable}
 use Rattle.rel_lang.specs.Lookup.{main_name, find_judgement}
 use Rattle.rel_lang.specs.Typed.{Signature}
 use Rattle.rel_types.specs.Flaws.{Flaws, flawless, either, Pass, Fault, fault_at, first_of, first_in}
-use Rattle.rel_types.specs.Inference.{Inferred, Exactly, infer, is_class, flaws_of_formula, flaws_of_rel, flaws_of_test, flaws_of_code, flaws_of_value}
+use Rattle.rel_types.specs.Inference.{Inferred, Exactly, infer, is_class}
 use Rattle.rel_types.specs.Code.{Code, find_callee, unknown_where, has_type, cannot_be_assigned, cannot_take, flaws_of_target, flaws_of_reference, flaws_of_arguments, flaws_of_load, flaws_of_store, flaws_of_call, flaws_of_form, command_fault, inner_fault, block_fault}
 use Rattle.rel_types.specs.Alignments.{Sides, is_about, is_about_procedures, is_call_by, are_linked, flaws_of_link, flaws_of_relation, flaws_of_tests, flaws_of_loop, flaws_of_biform, flaws_of_act, joint_fault, bicommand_fault, inner_bifault, biblock_fault, step_fault, align_fault}
 use Rattle.rel_types.specs.Lookups.{without_owner, SameLookups, SameCode, SameSides}

@@ -1,12 +1,12 @@
 -- What looks variables up gives the same for scopes in which each name finds the same, whoever owns it.
-use Rattle.std.proofs.Common.{◌≡◌, ℕ, Bool, true, false, not, ◌&&◌, ◌||◌, if◌then◌else◌, List, [], ◌∷◌, ◌++◌, Option, Some, None, option_map, refl, sym, ap, ap₂, ◌∙◌}
+use Rattle.std.proofs.Common.{◌≡◌, Bool, true, false, not, ◌&&◌, ◌||◌, if◌then◌else◌, [], ◌∷◌, ◌++◌, Option, Some, None, option_map, refl, sym, ap, ap₂, ◌∙◌}
 use Rattle.std.specs.Prelude.{bytes_eq, is_some}
-use Rattle.rel_lang.specs.Syntax.{Word, Ty, Int, Rgn, Class, Left, Right, Expression, Var, Num, Null, Empty, Alloc, Add, Sub, Mul, Field, Single, Union, Meet, Minus, Image, Filter, Old, Formula, True, False, Eq, Lt, Le, Member, Subset, Not, And, Or, Implies, Every, Exists, RelFormula, RelTrue, RelFalse, OnLeft, OnRight, Both, Agree, AgreeImage, RelNot, RelAnd, RelOr, RelImplies, RelEvery, RelExists, Eventually}
+use Rattle.rel_lang.specs.Syntax.{Word, Ty, Int, Rgn, Left, Right, Expression, Var, Num, Null, Empty, Alloc, Add, Sub, Mul, Field, Single, Union, Meet, Minus, Image, Filter, Old, Formula, True, False, Eq, Lt, Le, Member, Subset, Not, And, Or, Implies, Every, Exists, RelFormula, RelTrue, RelFalse, OnLeft, OnRight, Both, Agree, AgreeImage, RelNot, RelAnd, RelOr, RelImplies, RelEvery, RelExists, Eventually}
 use Rattle.rel_lang.specs.State.{Tables, find_field, Scope, Variable, find_variable}
 use Rattle.rel_lang.specs.Truth.{quantified}
 use Rattle.rel_lang.specs.Typed.{is_code, is_test}
 use Rattle.rel_types.specs.Flaws.{Flaws, flawless}
-use Rattle.rel_types.specs.Inference.{is_in_scope, Inferred, fits, is_reference, have_one_type, typed_where, type_of_variable, type_of_field, type_of_image, misplaces_old, formula_misplaces_old, rel_misplaces_old, is_class, is_field, has_unknown, formula_has_unknown, rel_has_unknown, binds_twice, rel_binds_twice, infer, is_ill_typed, rel_is_ill_typed, flaws_of_formula, flaws_of_rel, flaws_of_test, flaws_of_code, flaws_of_value, flaws_of_region}
+use Rattle.rel_types.specs.Inference.{is_in_scope, fits, is_reference, have_one_type, typed_where, type_of_variable, type_of_field, type_of_image, misplaces_old, is_class, is_field, has_unknown, formula_has_unknown, rel_has_unknown, binds_twice, rel_binds_twice, infer, is_ill_typed, rel_is_ill_typed, flaws_of_formula, flaws_of_rel, flaws_of_test, flaws_of_code, flaws_of_value, flaws_of_region}
 use Rattle.rel_types.specs.Lookups.{without_owner, SameLookups}
 
 -- ---- scopes

@@ -1,5 +1,5 @@
 -- When two scopes give the same for each name, and code and alignments know the same.
-use Rattle.std.specs.Prelude.{◌≡◌, Option, option_map}
+use Rattle.std.specs.Prelude.{◌≡◌, option_map}
 use Rattle.rel_lang.specs.Syntax.{Word}
 use Rattle.rel_lang.specs.State.{ByQuantifier, Variable, Scope, find_variable}
 use Rattle.rel_lang.specs.Lookup.{find_judgement}
