@@ -1,3 +1,4 @@
+pub mod Declaring
 pub mod Indexes
 pub mod Callees
 pub mod Knowledge

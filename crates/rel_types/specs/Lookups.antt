@@ -1,8 +1,10 @@
 -- When two scopes give the same for each name, and code and alignments know the same.
-use Rattle.std.specs.Prelude.{◌≡◌, option_map}
+use Rattle.std.specs.Prelude.{◌≡◌, List, map, option_map}
 use Rattle.rel_lang.specs.Syntax.{Word}
 use Rattle.rel_lang.specs.State.{ByQuantifier, Variable, Scope, find_variable}
 use Rattle.rel_lang.specs.Lookup.{find_judgement}
+use Rattle.rel_types.specs.View.{variable_of}
+use Rattle.rel_types.specs.declared.scope.Seen.{Seen}
 use Rattle.rel_types.specs.Code.{Code, find_callee}
 use Rattle.rel_types.specs.Alignments.{Sides}
 
@@ -12,6 +14,10 @@ without_owner v = record v { owner = ByQuantifier }
 
 abbrev pub SameLookups : Scope → Scope → Type 0
 SameLookups sc sd = (x : Word) → option_map without_owner (find_variable x sc) ≡ option_map without_owner (find_variable x sd)
+
+-- the variables that an index has, by name
+abbrev pub variables_seen : List (Word × Seen) → Scope
+variables_seen es = map (λ e. variable_of e.0 e.1) es
 
 pub record SameCode (c d : Code) : Type 0 where
   pub scope : SameLookups c.scope d.scope

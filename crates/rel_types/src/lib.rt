@@ -3,6 +3,7 @@
 
 mod binders;
 mod code;
+mod declarations;
 mod expression;
 mod formula;
 mod index;
