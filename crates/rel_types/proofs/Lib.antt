@@ -3,3 +3,4 @@ pub mod Indexes
 pub mod Callees
 pub mod Knowledge
 pub mod Lookups
+pub mod Repeats

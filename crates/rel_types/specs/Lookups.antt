@@ -3,6 +3,7 @@ use Rattle.std.specs.Prelude.{◌≡◌, List, map, option_map}
 use Rattle.rel_lang.specs.Syntax.{Word}
 use Rattle.rel_lang.specs.State.{ByQuantifier, Variable, Scope, find_variable}
 use Rattle.rel_lang.specs.Lookup.{find_judgement}
+use Rattle.rel_types.specs.Inference.{is_among}
 use Rattle.rel_types.specs.View.{variable_of}
 use Rattle.rel_types.specs.declared.scope.Seen.{Seen}
 use Rattle.rel_types.specs.Code.{Code, find_callee}
@@ -29,3 +30,11 @@ pub record SameSides (s t : Sides) : Type 0 where
   pub right : SameCode s.right t.right
   pub judgements : (j : Word) → find_judgement j s.judgements ≡ find_judgement j t.judgements
   pub units : s.units ≡ t.units
+
+-- the names that an index has
+abbrev pub names_in : {V : Type 0} → List (Word × V) → List Word
+names_in es = map (λ e. e.0) es
+
+-- the two have the same names
+abbrev pub SameNames : List Word → List Word → Type 0
+SameNames xs ys = (x : Word) → is_among x xs ≡ is_among x ys

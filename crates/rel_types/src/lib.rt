@@ -10,6 +10,7 @@ mod index;
 mod kind;
 pub mod laws;
 mod relation;
+mod names;
 mod scope;
 mod types;
 mod uses;
