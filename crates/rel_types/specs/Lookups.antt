@@ -1,5 +1,6 @@
 -- When two scopes give the same for each name, and code and alignments know the same.
-use Rattle.std.specs.Prelude.{◌≡◌, List, map, option_map}
+use Rattle.std.specs.Prelude.{◌≡◌, List, [], map, Option, Some, None, option_map}
+use denote.Ref.{Bor}
 use Rattle.rel_lang.specs.Syntax.{Word}
 use Rattle.rel_lang.specs.State.{ByQuantifier, Variable, Scope, find_variable}
 use Rattle.rel_lang.specs.Lookup.{find_judgement}
@@ -38,3 +39,8 @@ names_in es = map (λ e. e.0) es
 -- the two have the same names
 abbrev pub SameNames : List Word → List Word → Type 0
 SameNames xs ys = (x : Word) → is_among x xs ≡ is_among x ys
+
+-- the names of an index that may be there
+abbrev pub names_before : {V : Type 0} → Option (Bor (List (Word × V))) → List Word
+names_before None = []
+names_before (Some b) = names_in b.now
