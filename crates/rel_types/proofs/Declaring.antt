@@ -1,6 +1,6 @@
 -- Scopes that give the same for each name, and what declarations add.
 use Rattle.std.proofs.Common.{◌≡◌, ℕ, ◌<◌, ◌+◌, Bool, true, false, if◌then◌else◌, List, [], ◌∷◌, ◌++◌, map, take, get_or, length, Option, Some, None, option_map, refl, sym, ap, ◌∙◌, subst, append_assoc}
-use Rattle.std.specs.Prelude.{bytes_eq}
+use Rattle.std.specs.Prelude.{bytes_eq, is_some}
 use Rattle.std.proofs.lemmas.Slice.Eq.{bytes_eq-Decides}
 use Rattle.std.proofs.lemmas.List.{take_more, map-append}
 use Rattle.rel_lang.specs.Syntax as syntax
@@ -9,7 +9,8 @@ use Rattle.rel_lang.specs.State.{Owner, ByQuantifier, Scope, Variable, find_vari
 use Rattle.rel_lang.specs.Scope.{declared}
 use Rattle.rel_lang.specs.View.{decl_of}
 use Rattle.rel_lang.specs.declared.bundle.Decl.{Decl}
-use Rattle.rel_types.specs.Entries.{with_entry}
+use Rattle.rel_types.specs.Inference.{is_in_scope}
+use Rattle.rel_types.specs.Entries.{find_entry, with_entry}
 use Rattle.rel_types.specs.View.{variable_of}
 use Rattle.rel_types.specs.Lookups.{without_owner, SameLookups, variables_seen}
 use Rattle.rel_types.specs.declared.scope.Seen.{Seen}
@@ -87,3 +88,13 @@ more_declared after before base b ds i d h is old new =
     ∙ map-append _ (map decl_of (take i ds)) (decl_of d ∷ [])) in
     subst (SameLookups after) (append_assoc base first last ∙ ap (λ s. base ++ s) parts)
     (same_then after (before ++ last) ((base ++ first) ++ last) new (same_after before last (base ++ first) last old (same_self last)))
+
+-- ---- what an index has
+
+pub seen_in : (x : Word) (es : List (Word × Seen)) → is_some (find_entry x es) ≡ is_in_scope x (variables_seen es)
+seen_in x [] = refl
+seen_in x (e ∷ es) =
+    elim (bytes_eq x e.0) as (λ b. is_some (if b then Some e.1 else find_entry x es) ≡ is_some (if b then Some (variable_of e.0 e.1) else find_variable x (variables_seen es))) [
+      | true ↦ refl
+      | false ↦ seen_in x es
+    ]

@@ -4,3 +4,4 @@ pub mod Callees
 pub mod Knowledge
 pub mod Lookups
 pub mod Repeats
+pub mod Settings

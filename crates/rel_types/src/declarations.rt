@@ -1,15 +1,16 @@
 //! What declarations add to what a place can see.
 
-ghost use Rattle.std.specs.Prelude.{◌≡◌, ◌++◌, ◌∷◌, [], map, OnOk, IfOk};
-ghost use Rattle.rel_lang.specs.Scope.{declared};
+ghost use Rattle.std.specs.Prelude.{◌≡◌, ◌++◌, ◌∷◌, [], map, OnOk, IfOk, Some};
+ghost use Rattle.rel_lang.specs.Scope.{declared, result_variable};
 ghost use Rattle.rel_lang.specs.State.{ByQuantifier};
-ghost use Rattle.rel_lang.specs.View.{decl_of};
+ghost use Rattle.rel_lang.specs.View.{decl_of, type_of};
 ghost use Rattle.rel_types.specs.Lookups.{SameLookups, variables_seen};
 
 use crate::index::Index;
 use crate::scope::Seen;
 use crate::types::Type;
 use rel_lang::bundle::Decl;
+use rel_lang::expr::Ty;
 use rel_list::{List, Memory};
 
 /// Adds a declared variable, unless its name is there.
@@ -41,5 +42,17 @@ pub(crate) fn add_all<'a>(
     for decl in decls.as_slice() {
         add(index, decl, is_assignable)?;
     }
+    Ok(())
+}
+
+/// Adds `result`, of this type.
+pub(crate) fn add_result<'a>(own: &mut Index<'a, Seen<'a>>, ty: &'a Ty) -> Result<(), Memory>
+    ensures { OnOk result (SameLookups (variables_seen own.new) (variables_seen own.old ++ result_variable (Some (type_of ty.now)))) }
+{
+    let seen = Seen {
+        ty: Type::of(ty),
+        is_assignable: true,
+    };
+    own.insert("result", seen)?;
     Ok(())
 }

@@ -11,8 +11,9 @@ ghost use Rattle.rel_types.specs.View.{scope_of, tables_seen, flaws_of, fault_of
 use crate::index::Index;
 use crate::kind::{Fault, Flaws, Pass};
 use crate::names::add_names;
-use crate::scope::Tables;
-use rel_lang::bundle::{Class, Decl};
+use crate::scope::{Scope, Tables};
+use crate::uses::flaws_of_region;
+use rel_lang::bundle::{Class, Decl, Effect, Place};
 use rel_lang::expr::Ty;
 use rel_list::{List, Memory};
 
@@ -33,6 +34,36 @@ fn have_unknown_types(tables: &Tables<'_>, decls: &List<Decl>) -> bool
         found = found | names_unknown_class(tables, &decl.ty);
     }
     found
+}
+
+fn flaws_of_place<'a>(tables: &Tables<'a>, scope: &Scope<'a>, place: &Place) -> Flaws
+    ensures { flaws_of result ≡ items.flaws_of_place (tables_seen tables.now) (scope_of scope.now) (place_of place.now) }
+{
+    let field = Flaws {
+        unknown: tables.field(place.field.as_str()).is_none(),
+        ..Flaws::none()
+    };
+    field.either(flaws_of_region(tables, scope, &place.region))
+}
+
+#[tactic(auto, using(crate::proofs::Declaring::seen_in))]
+fn is_global<'a>(scope: &Scope<'a>, name: &str) -> bool
+    ensures { result ≡ inference.is_in_scope name.now (variables_seen scope.now.globals) }
+{
+    scope.globals.get(name).is_some()
+}
+
+/// A listed global is one of the scope's globals; a region is read in the scope.
+fn flaws_of_effect<'a>(tables: &Tables<'a>, scope: &Scope<'a>, effect: &Effect) -> Flaws
+    ensures { flaws_of result ≡ items.flaws_of_effect (tables_seen tables.now) (variables_seen scope.now.globals) (scope_of scope.now) (effect_of effect.now) }
+{
+    match effect {
+        Effect::Var(x) => Flaws {
+            unknown: !is_global(scope, x.as_str()),
+            ..Flaws::none()
+        },
+        Effect::At(place) => flaws_of_place(tables, scope, place),
+    }
 }
 
 /// The fields of a class, with the names of the fields that stand before, to which they are added.
