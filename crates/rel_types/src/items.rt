@@ -1,19 +1,21 @@
 //! What items and their members have wrong.
 
 ghost use Rattle.std.specs.Prelude.{◌≡◌, map, true, false, not, option_map, IfOk, OnOk, ◌++◌};
-ghost use Rattle.rel_lang.specs.View.{type_of, decl_of, place_of, effect_of, class_of};
+ghost use Rattle.rel_lang.specs.View.{type_of, decl_of, place_of, effect_of, clause_of, rel_clause_of, class_of};
 ghost use Rattle.rel_types.specs.Flaws.{flawless};
 ghost use Rattle.rel_types.specs.Inference as inference;
 ghost use Rattle.rel_types.specs.Items as items;
 ghost use Rattle.rel_types.specs.Lookups.{SameNames, names_in, variables_seen};
 ghost use Rattle.rel_types.specs.View.{scope_of, tables_seen, flaws_of, fault_of, pass_of};
 
+use crate::formula::flaws_of_formula;
 use crate::index::Index;
 use crate::kind::{Fault, Flaws, Pass};
 use crate::names::add_names;
+use crate::relation::flaws_of_rel;
 use crate::scope::{Scope, Tables};
 use crate::uses::flaws_of_region;
-use rel_lang::bundle::{Class, Decl, Effect, Place};
+use rel_lang::bundle::{Class, Clause, Decl, Effect, Place, RelClause};
 use rel_lang::expr::Ty;
 use rel_list::{List, Memory};
 
@@ -83,4 +85,36 @@ pub(crate) fn class_fault<'a>(
         ..Flaws::none()
     };
     Ok(more.either(flaws).fault(pass, class.at))
+}
+
+/// A formula of a specification, an invariant or an init.
+pub(crate) fn clause_fault<'a>(
+    tables: &Tables<'a>,
+    pass: Pass,
+    old: bool,
+    scope: &mut Scope<'a>,
+    clause: &'a Clause,
+) -> Result<Option<Fault>, Memory>
+    ensures fault { IfOk result (λ f. option_map fault_of f ≡ items.clause_fault (tables_seen tables.now) (pass_of pass) old (scope_of scope.old) (clause_of clause.now)) }
+    ensures scope { IfOk result (λ f. scope.new ≡ scope.old) }
+{
+    let flaws = flaws_of_formula(tables, scope, old, &clause.formula)?;
+    Ok(flaws.fault(pass, clause.at))
+}
+
+/// A relation formula of a judgement or a pair.
+pub(crate) fn rel_clause_fault<'a>(
+    tables: &Tables<'a>,
+    pass: Pass,
+    old: bool,
+    left: &mut Scope<'a>,
+    right: &mut Scope<'a>,
+    clause: &'a RelClause,
+) -> Result<Option<Fault>, Memory>
+    ensures fault { IfOk result (λ f. option_map fault_of f ≡ items.rel_clause_fault (tables_seen tables.now) (pass_of pass) old (scope_of left.old) (scope_of right.old) (rel_clause_of clause.now)) }
+    ensures left { IfOk result (λ f. left.new ≡ left.old) }
+    ensures right { IfOk result (λ f. right.new ≡ right.old) }
+{
+    let flaws = flaws_of_rel(tables, left, right, old, &clause.formula)?;
+    Ok(flaws.fault(pass, clause.at))
 }
