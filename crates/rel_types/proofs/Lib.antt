@@ -5,3 +5,4 @@ pub mod Knowledge
 pub mod Lookups
 pub mod Repeats
 pub mod Settings
+pub mod Gathered

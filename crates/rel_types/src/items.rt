@@ -68,6 +68,18 @@ fn flaws_of_effect<'a>(tables: &Tables<'a>, scope: &Scope<'a>, effect: &Effect) 
     }
 }
 
+/// The effects of a writes list.
+fn flaws_of_effects<'a>(tables: &Tables<'a>, scope: &Scope<'a>, effects: &List<Effect>) -> Flaws
+    ensures { flaws_of result ≡ items.flaws_of_all (tables_seen tables.now)
+        (items.flaws_of_effect (tables_seen tables.now) (variables_seen scope.now.globals) (scope_of scope.now)) (map effect_of effects.now) }
+{
+    let mut flaws = Flaws::none();
+    for effect in effects.as_slice() {
+        flaws = flaws.either(flaws_of_effect(tables, scope, effect));
+    }
+    flaws
+}
+
 /// The fields of a class, with the names of the fields that stand before, to which they are added.
 pub(crate) fn class_fault<'a>(
     tables: &Tables<'a>,
