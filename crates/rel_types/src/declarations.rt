@@ -1,8 +1,8 @@
 //! What declarations add to what a place can see.
 
-ghost use Rattle.std.specs.Prelude.{◌≡◌, ◌++◌, ◌∷◌, [], map, OnOk, IfOk, Some};
+ghost use Rattle.std.specs.Prelude.{◌≡◌, ◌++◌, ◌∷◌, [], map, OnOk, IfOk, Some, true, false};
 ghost use Rattle.rel_lang.specs.Scope.{declared, result_variable};
-ghost use Rattle.rel_lang.specs.State.{ByQuantifier};
+ghost use Rattle.rel_lang.specs.State.{ByCall, ByQuantifier};
 ghost use Rattle.rel_lang.specs.View.{decl_of, type_of};
 ghost use Rattle.rel_types.specs.Lookups.{SameLookups, variables_seen};
 
@@ -54,5 +54,22 @@ pub(crate) fn add_result<'a>(own: &mut Index<'a, Seen<'a>>, ty: &'a Ty) -> Resul
         is_assignable: true,
     };
     own.insert("result", seen)?;
+    Ok(())
+}
+
+/// Adds what a body has of its own: parameters, locals and `result` where it has one.
+pub(crate) fn add_own<'a>(
+    own: &mut Index<'a, Seen<'a>>,
+    params: &'a List<Decl>,
+    locals: &'a List<Decl>,
+    ty: &'a Ty,
+) -> Result<(), Memory>
+    ensures { OnOk result (SameLookups (variables_seen own.new)
+        (((variables_seen own.old ++ declared ByCall false (map decl_of params.now)) ++ declared ByCall true (map decl_of locals.now))
+        ++ result_variable (Some (type_of ty.now)))) }
+{
+    add_all(own, params, false)?;
+    add_all(own, locals, true)?;
+    add_result(own, ty)?;
     Ok(())
 }

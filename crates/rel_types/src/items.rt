@@ -1,6 +1,7 @@
 //! What items and their members have wrong.
 
 ghost use Rattle.std.specs.Prelude.{◌≡◌, map, true, false, not, option_map, IfOk, OnOk, ◌++◌};
+ghost use Rattle.rel_lang.specs.State as state;
 ghost use Rattle.rel_lang.specs.View.{type_of, decl_of, place_of, effect_of, clause_of, rel_clause_of, class_of};
 ghost use Rattle.rel_types.specs.Flaws.{flawless};
 ghost use Rattle.rel_types.specs.Inference as inference;
@@ -78,6 +79,23 @@ fn flaws_of_effects<'a>(tables: &Tables<'a>, scope: &Scope<'a>, effects: &List<E
         flaws = flaws.either(flaws_of_effect(tables, scope, effect));
     }
     flaws
+}
+
+/// The variables that an item declares, which are added to the names that stand before.
+pub(crate) fn flaws_of_globals<'a>(
+    tables: &Tables<'a>,
+    seen: &mut Index<'a, ()>,
+    decls: &'a List<Decl>,
+) -> Result<Flaws, Memory>
+    ensures flaws { IfOk result (λ f. (before : state.Scope) → SameNames (names_in seen.old) (items.seen_by_members before)
+        → flaws_of f ≡ items.flaws_of_globals (tables_seen tables.now) before (map decl_of decls.now)) }
+    ensures added { OnOk result (SameNames (names_in seen.new) (items.declared_names (map decl_of decls.now) ++ names_in seen.old)) }
+{
+    Ok(Flaws {
+        twice: add_names(None, seen, decls)?,
+        unknown: have_unknown_types(tables, decls),
+        ..Flaws::none()
+    })
 }
 
 /// The fields of a class, with the names of the fields that stand before, to which they are added.
