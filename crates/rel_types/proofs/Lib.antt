@@ -19,3 +19,9 @@ pub mod Firsts
 pub mod FoundJudgements
 pub mod BiFirsts
 pub mod SameSubjects
+pub mod Declaring
+pub mod Knowledge
+pub mod Lookups
+pub mod Repeats
+pub mod Settings
+pub mod Gathered

@@ -5,6 +5,7 @@ pub mod Alignments
 pub mod Items
 pub mod Laws
 pub mod Entries
+pub mod Lookups
 pub mod View
 pub mod CodeView
 pub mod AlignmentView

@@ -112,16 +112,6 @@ fn flaws_of_loop<'a>(
     let relations = flaws_of_relations(tables, s, &l.rel, &l.guards.0, &l.guards.1)?;
     Ok(tests.either(invariants.either(relations)))
 }
-
-fn unknown_where(holds: bool) -> Flaws
-    ensures { flaws_of result ≡ unknown_where_in holds }
-{
-    Flaws {
-        unknown: holds,
-        ..Flaws::none()
-    }
-}
-
 /// What a bicommand has wrong, its commands and blocks apart.
 pub(crate) fn flaws_of_biform<'a>(
     tables: &Tables<'a>,

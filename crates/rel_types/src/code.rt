@@ -43,7 +43,7 @@ impl<'a> Code<'a> {
     }
 }
 
-fn unknown_where(holds: bool) -> Flaws
+pub(crate) fn unknown_where(holds: bool) -> Flaws
     ensures { flaws_of result ≡ commands.unknown_where holds }
 {
     Flaws {

@@ -1,0 +1,150 @@
+//! What items and their members have wrong.
+
+ghost use Rattle.std.specs.Prelude.{◌≡◌, map, true, false, not, option_map, IfOk, OnOk, ◌++◌};
+ghost use Rattle.rel_lang.specs.State as state;
+ghost use Rattle.rel_lang.specs.View.{type_of, decl_of, place_of, effect_of, clause_of, rel_clause_of, class_of};
+ghost use Rattle.rel_types.specs.Flaws.{flawless};
+ghost use Rattle.rel_types.specs.Inference as inference;
+ghost use Rattle.rel_types.specs.Items as items;
+ghost use Rattle.rel_types.specs.Lookups.{SameNames, names_in, variables_seen};
+ghost use Rattle.rel_types.specs.View.{scope_of, tables_seen, flaws_of, fault_of, pass_of};
+
+use crate::formula::flaws_of_formula;
+use crate::index::Index;
+use crate::kind::{Fault, Flaws, Pass};
+use crate::names::add_names;
+use crate::relation::flaws_of_rel;
+use crate::scope::{Scope, Tables};
+use crate::uses::flaws_of_region;
+use rel_lang::bundle::{Class, Clause, Decl, Effect, Place, RelClause};
+use rel_lang::expr::Ty;
+use rel_list::{List, Memory};
+
+fn names_unknown_class(tables: &Tables<'_>, ty: &Ty) -> bool
+    ensures { result ≡ inference.names_unknown_class (tables_seen tables.now) (type_of ty.now) }
+{
+    match ty {
+        Ty::Class(class) => !tables.has_class(class.as_str()),
+        _ => false,
+    }
+}
+
+fn have_unknown_types(tables: &Tables<'_>, decls: &List<Decl>) -> bool
+    ensures { result ≡ inference.have_unknown_types (tables_seen tables.now) (map decl_of decls.now) }
+{
+    let mut found = false;
+    for decl in decls.as_slice() {
+        found = found | names_unknown_class(tables, &decl.ty);
+    }
+    found
+}
+
+fn flaws_of_place<'a>(tables: &Tables<'a>, scope: &Scope<'a>, place: &Place) -> Flaws
+    ensures { flaws_of result ≡ items.flaws_of_place (tables_seen tables.now) (scope_of scope.now) (place_of place.now) }
+{
+    let field = Flaws {
+        unknown: tables.field(place.field.as_str()).is_none(),
+        ..Flaws::none()
+    };
+    field.either(flaws_of_region(tables, scope, &place.region))
+}
+
+#[tactic(auto, using(crate::proofs::Declaring::seen_in))]
+fn is_global<'a>(scope: &Scope<'a>, name: &str) -> bool
+    ensures { result ≡ inference.is_in_scope name.now (variables_seen scope.now.globals) }
+{
+    scope.globals.get(name).is_some()
+}
+
+/// A listed global is one of the scope's globals; a region is read in the scope.
+fn flaws_of_effect<'a>(tables: &Tables<'a>, scope: &Scope<'a>, effect: &Effect) -> Flaws
+    ensures { flaws_of result ≡ items.flaws_of_effect (tables_seen tables.now) (variables_seen scope.now.globals) (scope_of scope.now) (effect_of effect.now) }
+{
+    match effect {
+        Effect::Var(x) => Flaws {
+            unknown: !is_global(scope, x.as_str()),
+            ..Flaws::none()
+        },
+        Effect::At(place) => flaws_of_place(tables, scope, place),
+    }
+}
+
+/// The effects of a writes list.
+fn flaws_of_effects<'a>(tables: &Tables<'a>, scope: &Scope<'a>, effects: &List<Effect>) -> Flaws
+    ensures { flaws_of result ≡ items.flaws_of_all (tables_seen tables.now)
+        (items.flaws_of_effect (tables_seen tables.now) (variables_seen scope.now.globals) (scope_of scope.now)) (map effect_of effects.now) }
+{
+    let mut flaws = Flaws::none();
+    for effect in effects.as_slice() {
+        flaws = flaws.either(flaws_of_effect(tables, scope, effect));
+    }
+    flaws
+}
+
+/// The variables that an item declares, which are added to the names that stand before.
+pub(crate) fn flaws_of_globals<'a>(
+    tables: &Tables<'a>,
+    seen: &mut Index<'a, ()>,
+    decls: &'a List<Decl>,
+) -> Result<Flaws, Memory>
+    ensures flaws { IfOk result (λ f. (before : state.Scope) → SameNames (names_in seen.old) (items.seen_by_members before)
+        → flaws_of f ≡ items.flaws_of_globals (tables_seen tables.now) before (map decl_of decls.now)) }
+    ensures added { OnOk result (SameNames (names_in seen.new) (items.declared_names (map decl_of decls.now) ++ names_in seen.old)) }
+{
+    Ok(Flaws {
+        twice: add_names(None, seen, decls)?,
+        unknown: have_unknown_types(tables, decls),
+        ..Flaws::none()
+    })
+}
+
+/// The fields of a class, with the names of the fields that stand before, to which they are added.
+pub(crate) fn class_fault<'a>(
+    tables: &Tables<'a>,
+    pass: Pass,
+    fields: &mut Index<'a, ()>,
+    more: Flaws,
+    class: &'a Class,
+) -> Result<Option<Fault>, Memory>
+    ensures fault { IfOk result (λ f. option_map fault_of f ≡ items.class_fault (tables_seen tables.now) (pass_of pass) (names_in fields.old) (flaws_of more) (class_of class.now)) }
+    ensures added { OnOk result (SameNames (names_in fields.new) (items.declared_names (map decl_of class.now.fields) ++ names_in fields.old)) }
+{
+    let flaws = Flaws {
+        twice: add_names(None, fields, &class.fields)?,
+        unknown: have_unknown_types(tables, &class.fields),
+        ..Flaws::none()
+    };
+    Ok(more.either(flaws).fault(pass, class.at))
+}
+
+/// A formula of a specification, an invariant or an init.
+pub(crate) fn clause_fault<'a>(
+    tables: &Tables<'a>,
+    pass: Pass,
+    old: bool,
+    scope: &mut Scope<'a>,
+    clause: &'a Clause,
+) -> Result<Option<Fault>, Memory>
+    ensures fault { IfOk result (λ f. option_map fault_of f ≡ items.clause_fault (tables_seen tables.now) (pass_of pass) old (scope_of scope.old) (clause_of clause.now)) }
+    ensures scope { IfOk result (λ f. scope.new ≡ scope.old) }
+{
+    let flaws = flaws_of_formula(tables, scope, old, &clause.formula)?;
+    Ok(flaws.fault(pass, clause.at))
+}
+
+/// A relation formula of a judgement or a pair.
+pub(crate) fn rel_clause_fault<'a>(
+    tables: &Tables<'a>,
+    pass: Pass,
+    old: bool,
+    left: &mut Scope<'a>,
+    right: &mut Scope<'a>,
+    clause: &'a RelClause,
+) -> Result<Option<Fault>, Memory>
+    ensures fault { IfOk result (λ f. option_map fault_of f ≡ items.rel_clause_fault (tables_seen tables.now) (pass_of pass) old (scope_of left.old) (scope_of right.old) (rel_clause_of clause.now)) }
+    ensures left { IfOk result (λ f. left.new ≡ left.old) }
+    ensures right { IfOk result (λ f. right.new ≡ right.old) }
+{
+    let flaws = flaws_of_rel(tables, left, right, old, &clause.formula)?;
+    Ok(flaws.fault(pass, clause.at))
+}

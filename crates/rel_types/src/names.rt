@@ -1,0 +1,56 @@
+//! Names that stand before, and those that are declared again.
+
+ghost use Rattle.std.specs.Prelude.{◌≡◌, ◌++◌, ◌∷◌, [], map, OnOk, IfOk};
+ghost use Rattle.rel_lang.specs.View.{decl_of};
+ghost use Rattle.rel_types.specs.Inference.{is_among};
+ghost use Rattle.rel_types.specs.Items.{repeats, declared_names};
+ghost use Rattle.rel_types.specs.Lookups.{SameNames, names_in, names_before};
+
+use crate::index::Index;
+use rel_lang::bundle::Decl;
+use rel_list::{List, Memory};
+
+/// Whether the name is among these.
+#[tactic(auto, using(crate::proofs::Indexes::indexes))]
+pub(crate) fn is_named(names: &Index<'_, ()>, name: &str) -> bool
+    ensures { result ≡ is_among name.now (names_in names.now) }
+{
+    names.get(name).is_some()
+}
+
+/// Adds a name, and whether it was there.
+pub(crate) fn add_name<'a>(names: &mut Index<'a, ()>, name: &'a str) -> Result<bool, Memory>
+    ensures was_there { IfOk result (λ r. r ≡ is_among name.now (names_in names.old)) }
+    ensures added { OnOk result (SameNames (names_in names.new) (name.now ∷ names_in names.old)) }
+{
+    let was_there = is_named(names, name);
+    names.insert(name, ())?;
+    Ok(was_there)
+}
+
+fn is_before(names: Option<&Index<'_, ()>>, name: &str) -> bool
+    ensures { result ≡ is_among name.now (names_before names.entry) }
+{
+    match names {
+        Some(names) => is_named(names, name),
+        None => false,
+    }
+}
+
+/// Whether a declaration has a name that stands before it, or is one of `before` or `own`. Adds the names to `own`.
+pub(crate) fn add_names<'a>(
+    before: Option<&Index<'a, ()>>,
+    own: &mut Index<'a, ()>,
+    decls: &'a List<Decl>,
+) -> Result<bool, Memory>
+    ensures repeated { IfOk result (λ r. r ≡ repeats (names_in own.old ++ names_before before.entry) (declared_names (map decl_of decls.now))) }
+    ensures added { OnOk result (SameNames (names_in own.new) (declared_names (map decl_of decls.now) ++ names_in own.old)) }
+{
+    let mut repeated = false;
+    for decl in decls.as_slice() {
+        let name = decl.name.as_str();
+        let was_there = add_name(own, name)?;
+        repeated = repeated | (was_there | is_before(before, name));
+    }
+    Ok(repeated)
+}
