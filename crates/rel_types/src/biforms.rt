@@ -4,11 +4,11 @@ ghost use Rattle.std.specs.Prelude.{◌≡◌, true, IfOk};
 ghost use Rattle.rel_lang.specs.View.{formula_of, rel_of, loop_of, biform_of, act_of};
 ghost use Rattle.rel_types.specs.Alignments as alignments;
 ghost use Rattle.rel_types.specs.AlignmentView.{sides_of};
-ghost use Rattle.rel_types.specs.Code.{unknown_where as unknown_where_in};
 ghost use Rattle.rel_types.specs.Flaws.{either as either_of};
 ghost use Rattle.rel_types.specs.Inference.{flaws_of_formula as flaws_of_formula_in};
 ghost use Rattle.rel_types.specs.View.{scope_of, tables_seen, flaws_of};
 
+use crate::code::unknown_where;
 use crate::formula::flaws_of_formula;
 use crate::kind::Flaws;
 use crate::relation::flaws_of_rel;
