@@ -8,6 +8,7 @@ use std::alloc::Global;
 use std::marker::Model;
 
 /// Quantified names with their classes. Contracts see them as a list, the innermost first.
+#[derive(Drop)]
 pub(crate) struct Binders<'a> {
     names: Vec<(&'a str, &'a str)>,
 }

@@ -27,6 +27,7 @@ pub(crate) struct Callee<'a> {
 }
 
 /// What code can name. The code of a module may name its interface's methods and call none of them.
+#[derive(Drop)]
 pub(crate) struct Code<'a> {
     pub scope: Scope<'a>,
     pub callees: Index<'a, Callee<'a>>,

@@ -9,6 +9,7 @@ use std::alloc::Global;
 use std::marker::Model;
 
 /// Names with values. Contracts see the list of them, in which each name stands once.
+#[derive(Drop)]
 pub(crate) struct Index<'a, V> {
     entries: IndexMap<&'a str, V>,
 }

@@ -24,6 +24,7 @@ pub(crate) struct SeenField<'a> {
 }
 
 /// The classes and the fields.
+#[derive(Drop)]
 pub(crate) struct Tables<'a> {
     pub classes: Index<'a, ()>,
     pub fields: Index<'a, SeenField<'a>>,
@@ -71,6 +72,7 @@ impl<'a> Tables<'a> {
 }
 
 /// The variables that can be seen, the first of a name counting: quantified ones, then globals, then those of a body.
+#[derive(Drop)]
 pub(crate) struct Scope<'a> {
     pub quantified: Binders<'a>,
     pub globals: Index<'a, Seen<'a>>,

@@ -19,6 +19,7 @@ pub(crate) struct Subjects<'a> {
 
 /// What the code of the two sides can name, the bundle's judgements, and the two units whose procedures are aligned.
 /// Where the bodies of two modules are aligned there are no units.
+#[derive(Drop)]
 pub(crate) struct Sides<'a, 's> {
     pub left: Code<'a>,
     pub right: Code<'a>,
