@@ -15,7 +15,7 @@ use Rattle.rel_types.specs.Alignments.{align_fault}
 use Rattle.rel_types.specs.Items.{repeats, declared_names, twice_where, globals_of_interface, flaws_of_globals, clause_fault, rel_clause_fault, proc_fault, first_named, misses_methods, init_in_module, method_in_module, signatures_of, module_body_fault, module_fault, setting_in_client, callees_in_client, flaws_of_client_proc, client_fault, interface_of_module, differ_in_interface, globals_of_side, init_of_side, method_of_side, module_sides, pair_fault, item_fault, fields_of_item, items_fault}
 use Rattle.rel_types.specs.Laws.{TypedHaveNoFault}
 use Rattle.rel_types.proofs.Clean.{IsClean, HasNoFault, or_false, first_none, no_fault_in_both, clean_both}
-use Rattle.rel_types.proofs.Names.{AreApart, apart_from_nothing, apart_cons, apart_append, apart_of_append, among_is_false, same_from_true, distinct_append, repeats_is_false}
+use Rattle.rel_types.proofs.Distinct.{AreApart, apart_from_nothing, apart_cons, apart_append, apart_of_append, among_is_false, same_from_true, distinct_append, repeats_is_false}
 use Rattle.rel_types.proofs.Equivalences.{iff_same, iff_then, iff_both, iff_all}
 use Rattle.rel_types.proofs.Procedures.{at_first}
 use Rattle.rel_types.proofs.Units.{twice_clean, class_law, interface_law, unit_law}

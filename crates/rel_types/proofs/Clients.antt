@@ -13,7 +13,7 @@ use Rattle.rel_types.specs.Flaws.{Flaws, flawless, either, Pass}
 use Rattle.rel_types.specs.Inference.{is_among}
 use Rattle.rel_types.specs.Items.{declared_names, first_named, flaws_of_globals, proc_fault, is_empty, flaws_of_client_proc, setting_in_client, callees_in_client, client_fault}
 use Rattle.rel_types.proofs.Clean.{IsClean, HasNoFault, or_false, clean_both}
-use Rattle.rel_types.proofs.Names.{apart_from_nothing, apart_turned, apart_is_false, among_is_false, same_from_true, true_from_same, distinct_append}
+use Rattle.rel_types.proofs.Distinct.{apart_from_nothing, apart_turned, apart_is_false, among_is_false, same_from_true, true_from_same, distinct_append}
 use Rattle.rel_types.proofs.Equivalences.{all_both, all_mapped}
 use Rattle.rel_types.proofs.Procedures.{at_first, names_append, names_declared, proc_law}
 use Rattle.rel_types.proofs.Units.{named_law, globals_law}

@@ -12,7 +12,7 @@ use Rattle.rel_types.specs.Inference.{same_type, Inferred, Exactly, fits, infer,
 use Rattle.rel_types.specs.Code.{Code, find_callee, unknown_where, has_type, cannot_be_assigned, cannot_take, flaws_of_target, flaws_of_reference, flaws_of_arguments, flaws_of_load, flaws_of_store, flaws_of_call, flaws_of_form, inner_fault, command_fault, block_fault}
 use Rattle.rel_types.proofs.Equivalences.{iff_then, iff_back, iff_both}
 use Rattle.rel_types.proofs.Clean.{IsClean, clean_both, HasNoFault, no_fault_at, no_fault_in_both}
-use Rattle.rel_types.proofs.Names.{apart_is_false}
+use Rattle.rel_types.proofs.Distinct.{apart_is_false}
 use Rattle.rel_types.proofs.Expressions.{AreFine, among_law, type_law, expression_law}
 use Rattle.rel_types.proofs.Formulas.{two_clean, formula_law}
 

@@ -12,7 +12,7 @@ use Rattle.rel_types.specs.Code.{unknown_where}
 use Rattle.rel_types.specs.Alignments.{Sides, align_fault}
 use Rattle.rel_types.specs.Items.{rel_clause_fault, setting_in_module, code_of_subject, pre_scope_of_subject, post_scope_of_subject, globals_of_side, code_in_module, init_of_side, method_of_side, differ_in_interface, misses_methods, judgement_fault, module_sides, pair_fault}
 use Rattle.rel_types.proofs.Clean.{IsClean, HasNoFault, or_false, no_fault_in_both, no_fault_in_list, clean_both}
-use Rattle.rel_types.proofs.Names.{not_is_false, same_names_are_same, same_from_true, true_from_same}
+use Rattle.rel_types.proofs.Distinct.{not_is_false, same_names_are_same, same_from_true, true_from_same}
 use Rattle.rel_types.proofs.Equivalences.{iff_same, iff_back, iff_then, iff_both, some_weaker}
 use Rattle.rel_types.proofs.AlignmentsTyped.{align_law}
 use Rattle.rel_types.proofs.Procedures.{at_first, unknown_clean, rel_clause_law}

@@ -5,7 +5,7 @@ pub mod Formulas
 pub mod Relations
 pub mod Commands
 pub mod AlignmentsTyped
-pub mod Names
+pub mod Distinct
 pub mod Matches
 pub mod Procedures
 pub mod Units

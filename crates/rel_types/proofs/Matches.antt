@@ -4,7 +4,7 @@ use Rattle.std.specs.List.{AllByRecursion}
 use Rattle.rel_lang.specs.Syntax.{Word}
 use Rattle.rel_lang.specs.State.{find_named}
 use Rattle.rel_lang.specs.Typed.{IsAmong, AreDistinct}
-use Rattle.rel_types.proofs.Names.{true_from_same, apart_is_false}
+use Rattle.rel_types.proofs.Distinct.{true_from_same, apart_is_false}
 use Rattle.rel_types.proofs.Equivalences.{iff_same, iff_back, iff_then, iff_both, iff_along}
 
 pub found_here : {B : Type 0} (right : B → Word) (x : Word) (b : B) (bs : List B) → x ≡ right b → find_named right x (b ∷ bs) ≡ Some b

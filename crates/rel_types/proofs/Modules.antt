@@ -14,7 +14,7 @@ use Rattle.rel_types.specs.Inference.{have_unknown_types}
 use Rattle.rel_types.specs.Code.{block_fault}
 use Rattle.rel_types.specs.Items.{repeats, declared_names, seen_by_members, flaws_of_globals, clause_fault, module_body_fault, setting_in_module, init_in_module, method_in_module, signatures_of, misses_methods, module_fault}
 use Rattle.rel_types.proofs.Clean.{IsClean, HasNoFault, no_fault_in_both, no_fault_in_list, clean_both}
-use Rattle.rel_types.proofs.Names.{same_names_are_same, distinct_append}
+use Rattle.rel_types.proofs.Distinct.{same_names_are_same, distinct_append}
 use Rattle.rel_types.proofs.Equivalences.{iff_same, iff_back, iff_then, iff_both}
 use Rattle.rel_types.proofs.Commands.{block_law}
 use Rattle.rel_types.proofs.Procedures.{at_first, twice_unknown_clean, names_append, names_declared, body_names, body_with_result, types_law, clause_law}

@@ -11,7 +11,7 @@ use Rattle.rel_types.specs.Inference.{is_field, is_class, names_unknown_class, h
 use Rattle.rel_types.specs.Code.{unknown_where, block_fault}
 use Rattle.rel_types.specs.Items.{repeats, declared_names, seen_by_members, flaws_of_place, flaws_of_effect, flaws_of_all, clause_fault, rel_clause_fault, clauses_fault, flaws_of_head, proc_fault}
 use Rattle.rel_types.proofs.Clean.{IsClean, HasNoFault, or_false, no_fault_in_both, no_fault_at, clean_both}
-use Rattle.rel_types.proofs.Names.{AreApart, not_is_false, repeats_is_false, distinct_append, apart_cons, apart_of_append}
+use Rattle.rel_types.proofs.Distinct.{AreApart, not_is_false, repeats_is_false, distinct_append, apart_cons, apart_of_append}
 use Rattle.rel_types.proofs.Equivalences.{iff_same, iff_back, iff_then, iff_both, iff_all, all_of_append, some_is_tested}
 use Rattle.rel_types.proofs.Expressions.{among_law}
 use Rattle.rel_types.proofs.Formulas.{formula_law, region_law}

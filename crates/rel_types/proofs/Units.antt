@@ -10,7 +10,7 @@ use Rattle.rel_types.specs.Flaws.{Flaws, flawless, either, Pass, ForTwice, Fault
 use Rattle.rel_types.specs.Inference.{is_among, have_unknown_types}
 use Rattle.rel_types.specs.Items.{repeats, declared_names, seen_by_members, twice_where, first_named, flaws_of_place, flaws_of_effect, flaws_of_all, flaws_of_globals, clause_fault, clauses_fault, flaws_of_head, proc_fault, class_fault, method_fault, interface_fault, unit_fault}
 use Rattle.rel_types.proofs.Clean.{IsClean, HasNoFault, no_fault_in_both, no_fault_at, clean_both}
-use Rattle.rel_types.proofs.Names.{AreApart, apart_from_nothing, apart_cons, among_is_false, repeats_is_false, distinct_append}
+use Rattle.rel_types.proofs.Distinct.{AreApart, apart_from_nothing, apart_cons, among_is_false, repeats_is_false, distinct_append}
 use Rattle.rel_types.proofs.Equivalences.{iff_same, iff_back, iff_then, iff_both}
 use Rattle.rel_types.proofs.Procedures.{at_first, twice_unknown_clean, names_declared, body_with_result, types_law, places_law, effects_law, clause_law, clauses_law, head_law, proc_law}
 
