@@ -1,6 +1,6 @@
 -- Looking up in an index is looking up in the list that it stands for.
-use Rattle.std.proofs.Common.{◌≡◌, ℕ, Bool, true, false, List, [], ◌∷◌, ◌++◌, map, fold, Option, Some, None, option_map, ◌+◌, ◌<◌, length, get_or, take, sym, ap, refl, ◌∙◌, rules}
-use Rattle.std.specs.Prelude.{bytes_eq, is_some, if◌then◌else◌, ◌||◌, IsTrue, IsSome}
+use Rattle.std.proofs.Common.{◌≡◌, ℕ, true, false, List, [], ◌∷◌, ◌++◌, map, fold, Option, Some, None, option_map, ◌+◌, ◌<◌, length, get_or, take, sym, ap, refl, ◌∙◌}
+use Rattle.std.specs.Prelude.{bytes_eq, is_some, if◌then◌else◌, ◌||◌}
 use Rattle.std.specs.List.{list_any}
 use Rattle.std.specs.Map.{lookup}
 use Rattle.indexmap.specs.IndexMap.{insert_entry}
@@ -8,7 +8,7 @@ use Rattle.std.proofs.lemmas.List.{take_more}
 use Rattle.std.proofs.lemmas.Slice.Eq.{bytes_eq-Decides}
 use denote.Ref.{Bor}
 use Rattle.rel_lang.specs.Syntax.{Word}
-use Rattle.rel_lang.specs.State.{find_named, find_variable, Scope, Variable, ClassField}
+use Rattle.rel_lang.specs.State.{find_named, find_variable, Scope, Variable}
 use Rattle.rel_lang.specs.Truth.{quantified}
 use Rattle.rel_types.specs.Entries.{find_entry, with_entry, last_first}
 use Rattle.rel_types.specs.View.{field_of, variable_of, declared_of, scope_of}

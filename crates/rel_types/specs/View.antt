@@ -1,5 +1,5 @@
 -- What the values of the code stand for.
-use Rattle.std.specs.Prelude.{Bool, not, ◌||◌, List, ◌++◌, map}
+use Rattle.std.specs.Prelude.{Bool, not, ◌||◌, ◌++◌, map}
 use Rattle.rel_lang.specs.Syntax as syntax
 use Rattle.rel_lang.specs.Syntax.{Word}
 use Rattle.rel_lang.specs.State.{Tables, ClassField, ByQuantifier, Variable, Scope}

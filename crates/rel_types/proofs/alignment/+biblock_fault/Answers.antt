@@ -1,4 +1,4 @@
-use Rattle.std.proofs.Common.{◌≡◌, ap, sym, ◌∙◌, option_map, arith}
+use Rattle.std.proofs.Common.{◌≡◌, ap, sym, ◌∙◌, option_map}
 use Rattle.std.proofs.lemmas.Result.{IfOk-weaker}
 use Rattle.rel_lang.specs.View.{bicommand_of, biblock_of}
 use Rattle.rel_types.specs.Alignments.{bicommand_fault, biblock_fault}

@@ -1,4 +1,4 @@
-use Rattle.std.proofs.Common.{◌≡◌, ap, sym, ◌∙◌, option_map, arith}
+use Rattle.std.proofs.Common.{◌≡◌, ap, sym, ◌∙◌, option_map}
 use Rattle.std.proofs.lemmas.Result.{IfOk-weaker}
 use Rattle.rel_lang.specs.View.{command_of, block_of}
 use Rattle.rel_types.specs.Code.{command_fault, block_fault}

@@ -1,4 +1,4 @@
-use Rattle.std.proofs.Common.{◌≡◌, ◌+◌, ◌-◌, ◌<◌, suc, map, drop, length, get_or, ap, ◌∙◌, arith}
+use Rattle.std.proofs.Common.{◌≡◌, ◌-◌, suc, map, drop, get_or, ap, ◌∙◌, arith}
 use Rattle.rel_lang.specs.View.{expression_of, decl_of}
 use Rattle.rel_types.specs.Flaws.{either}
 use Rattle.rel_types.specs.Code as code

@@ -1,4 +1,4 @@
-use Rattle.std.proofs.Common.{◌≡◌, ◌++◌, ◌∷◌, [], sym, ap₂, subst}
+use Rattle.std.proofs.Common.{◌++◌, ◌∷◌, [], sym, ap₂, subst}
 use Rattle.rel_lang.specs.State.{ByQuantifier, Variable}
 use Rattle.rel_lang.specs.Scope.{declared}
 use Rattle.rel_lang.specs.View.{decl_of}

@@ -1,4 +1,4 @@
-use Rattle.std.proofs.Common.{◌≡◌, ◌++◌, ◌∷◌, [], true, Some, sym, ap, subst}
+use Rattle.std.proofs.Common.{◌++◌, ◌∷◌, [], true, Some, sym, ap, subst}
 use Rattle.rel_lang.specs.State.{ByCall, ByQuantifier, Scope, Variable}
 use Rattle.rel_lang.specs.Scope.{result_name, result_variable}
 use Rattle.rel_lang.specs.View.{type_of}

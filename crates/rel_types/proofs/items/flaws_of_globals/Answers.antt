@@ -1,4 +1,4 @@
-use Rattle.std.proofs.Common.{◌≡◌, ap, ap₂, ◌∙◌, map}
+use Rattle.std.proofs.Common.{ap, ap₂, ◌∙◌, map}
 use Rattle.rel_lang.specs.View.{decl_of}
 use Rattle.rel_types.specs.Flaws.{Flaws, flawless}
 use Rattle.rel_types.specs.Items.{seen_by_members, declared_names}

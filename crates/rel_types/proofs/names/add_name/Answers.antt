@@ -1,5 +1,4 @@
-use Rattle.std.proofs.Common.{◌∷◌, sym, ap, subst, ◌∙◌}
-use Rattle.rel_types.specs.Inference.{is_among}
+use Rattle.std.proofs.Common.{◌∷◌, sym, subst}
 use Rattle.rel_types.specs.Lookups.{SameNames, names_in}
 use Rattle.rel_types.proofs.Repeats.{names_with}
 use Rattle.rel_types.proofs.names.add_name.Goals as goal

@@ -1,4 +1,4 @@
-use Rattle.std.proofs.Common.{◌≡◌, [], option_map, sym, ap, ◌∙◌}
+use Rattle.std.proofs.Common.{[], option_map, sym, ap, ◌∙◌}
 use Rattle.rel_types.proofs.Indexes.{step_found, step_passed}
 use Rattle.rel_types.proofs.binders.Binders.find.Goals as goal
 use Rattle.rel_types.proofs.binders.Binders.find.Goals.{then-eq, else-eq}

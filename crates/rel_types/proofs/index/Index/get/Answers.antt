@@ -1,4 +1,3 @@
-use Rattle.std.proofs.Common.{◌≡◌}
 use Rattle.rel_types.proofs.Indexes.{looked_up}
 use Rattle.rel_types.proofs.index.Index.get.Goals as goal
 

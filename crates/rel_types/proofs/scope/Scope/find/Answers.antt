@@ -1,4 +1,4 @@
-use Rattle.std.proofs.Common.{◌≡◌, option_map, sym, ap, ◌∙◌}
+use Rattle.std.proofs.Common.{option_map, sym, ap, ◌∙◌}
 use Rattle.rel_types.proofs.Indexes.{in_front, behind_quantified}
 use Rattle.rel_types.proofs.scope.Scope.find.Goals as goal
 

@@ -1,4 +1,4 @@
-use Rattle.std.proofs.Common.{◌≡◌, option_map, sym, ap, ◌∙◌}
+use Rattle.std.proofs.Common.{option_map, sym, ap, ◌∙◌}
 use Rattle.rel_types.specs.View.{variable_of}
 use Rattle.rel_types.proofs.Indexes.{in_globals, in_own}
 use Rattle.rel_types.proofs.scope.Scope.find_declared.Goals as goal
