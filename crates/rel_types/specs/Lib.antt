@@ -9,3 +9,4 @@ pub mod Lookups
 pub mod View
 pub mod CodeView
 pub mod AlignmentView
+pub mod OwnView

@@ -20,7 +20,7 @@ use rel_lang::bundle::{Class, Clause, Decl, Effect, Place, RelClause};
 use rel_lang::expr::Ty;
 use rel_list::{List, Memory};
 
-fn names_unknown_class(tables: &Tables<'_>, ty: &Ty) -> bool
+pub(crate) fn names_unknown_class(tables: &Tables<'_>, ty: &Ty) -> bool
     ensures { result ≡ inference.names_unknown_class (tables_seen tables.now) (type_of ty.now) }
 {
     match ty {
@@ -29,7 +29,7 @@ fn names_unknown_class(tables: &Tables<'_>, ty: &Ty) -> bool
     }
 }
 
-fn have_unknown_types(tables: &Tables<'_>, decls: &List<Decl>) -> bool
+pub(crate) fn have_unknown_types(tables: &Tables<'_>, decls: &List<Decl>) -> bool
     ensures { result ≡ inference.have_unknown_types (tables_seen tables.now) (map decl_of decls.now) }
 {
     let mut found = false;
@@ -70,7 +70,7 @@ fn flaws_of_effect<'a>(tables: &Tables<'a>, scope: &Scope<'a>, effect: &Effect) 
 }
 
 /// The effects of a writes list.
-fn flaws_of_effects<'a>(tables: &Tables<'a>, scope: &Scope<'a>, effects: &List<Effect>) -> Flaws
+pub(crate) fn flaws_of_effects<'a>(tables: &Tables<'a>, scope: &Scope<'a>, effects: &List<Effect>) -> Flaws
     ensures { flaws_of result ≡ items.flaws_of_all (tables_seen tables.now)
         (items.flaws_of_effect (tables_seen tables.now) (variables_seen scope.now.globals) (scope_of scope.now)) (map effect_of effects.now) }
 {

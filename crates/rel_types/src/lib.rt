@@ -14,6 +14,7 @@ mod items;
 mod kind;
 pub mod laws;
 mod names;
+mod own;
 mod relation;
 mod scope;
 mod sides;
