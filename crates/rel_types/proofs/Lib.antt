@@ -25,3 +25,4 @@ pub mod Lookups
 pub mod Repeats
 pub mod Settings
 pub mod Gathered
+pub mod Calling
