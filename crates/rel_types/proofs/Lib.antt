@@ -26,3 +26,4 @@ pub mod Repeats
 pub mod Settings
 pub mod Gathered
 pub mod Owned
+pub mod Calling

@@ -6,6 +6,7 @@ pub mod Items
 pub mod Laws
 pub mod Entries
 pub mod Lookups
+pub mod Called
 pub mod View
 pub mod CodeView
 pub mod AlignmentView

@@ -70,7 +70,11 @@ fn flaws_of_effect<'a>(tables: &Tables<'a>, scope: &Scope<'a>, effect: &Effect) 
 }
 
 /// The effects of a writes list.
-pub(crate) fn flaws_of_effects<'a>(tables: &Tables<'a>, scope: &Scope<'a>, effects: &List<Effect>) -> Flaws
+pub(crate) fn flaws_of_effects<'a>(
+    tables: &Tables<'a>,
+    scope: &Scope<'a>,
+    effects: &List<Effect>,
+) -> Flaws
     ensures { flaws_of result ≡ items.flaws_of_all (tables_seen tables.now)
         (items.flaws_of_effect (tables_seen tables.now) (variables_seen scope.now.globals) (scope_of scope.now)) (map effect_of effects.now) }
 {

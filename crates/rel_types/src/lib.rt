@@ -5,6 +5,7 @@ mod alignment;
 mod biforms;
 mod binders;
 mod block;
+mod called;
 mod code;
 mod declarations;
 mod expression;

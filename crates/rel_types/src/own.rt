@@ -79,7 +79,10 @@ fn add_all_in<'a>(
     }
 }
 
-pub(crate) fn add_result_in<'a>(index: &mut Index<'a, Seen<'a>>, ty: Option<&'a Ty>) -> Result<(), Memory>
+pub(crate) fn add_result_in<'a>(
+    index: &mut Index<'a, Seen<'a>>,
+    ty: Option<&'a Ty>,
+) -> Result<(), Memory>
     ensures { OnOk result (SameLookups (variables_seen index.new) (variables_seen index.old ++ result_variable (type_in ty.entry))) }
 {
     match ty {
