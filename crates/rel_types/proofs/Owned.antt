@@ -1,5 +1,5 @@
 -- What a body has of its own: its names and its variables.
-use Rattle.std.proofs.Common.{◌≡◌, Bool, true, false, ◌||◌, List, [], ◌∷◌, ◌++◌, map, Option, refl, sym, ap, ap₂, ◌∙◌, subst, append_assoc, append-nil}
+use Rattle.std.proofs.Common.{◌≡◌, Bool, true, false, ◌||◌, List, [], ◌++◌, Option, refl, sym, ap, ap₂, ◌∙◌, subst, append_assoc, append-nil}
 use Rattle.std.proofs.lemmas.List.{map-append}
 use Rattle.rel_lang.specs.Syntax.{Word, Ty, Decl}
 use Rattle.rel_lang.specs.State.{Scope, ByCall, ByQuantifier}
@@ -10,10 +10,6 @@ use Rattle.rel_types.specs.Lookups.{SameLookups, SameNames}
 use Rattle.rel_types.proofs.Lookups.{same_after}
 use Rattle.rel_types.proofs.Declaring.{same_self, same_then, same_declared}
 use Rattle.rel_types.proofs.Repeats.{same_names_after, repeats_same, repeats_both}
-
--- nothing more
-pub same_with_none : (sc sd : Scope) → sd ≡ sc → SameLookups sd (sc ++ [])
-same_with_none sc sd e = subst (SameLookups sd) (e ∙ sym (append-nil sc)) (same_self sd)
 
 -- parameters, then locals
 pub repeated_own : (before none own : List Word) (ps ls : List Decl) (a b : Bool) → none ≡ []
