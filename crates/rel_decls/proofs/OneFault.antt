@@ -12,8 +12,8 @@ use Rattle.rel_lang.proofs.Refusals.{within_is_not_over, one_refusal}
 use Rattle.rel_parse.proofs.Laws.{IsToldBy, AreTold}
 use Rattle.rel_parse.proofs.Along.{le_reach, within_all}
 use Rattle.rel_parse.proofs.Both.{compared}
-use Rattle.rel_decls.specs.declared.fault.LexKind.{LexKind}
-use Rattle.rel_decls.specs.declared.fault.LexKind.TheVariants.{BadChar, WideLiteral}
+use Rattle.rel_lang.specs.declared.fault.LexKind.{LexKind}
+use Rattle.rel_lang.specs.declared.fault.LexKind.TheVariants.{BadChar, WideLiteral}
 use Rattle.rel_decls.specs.declared.fault.TextFault.{TextFault}
 use Rattle.rel_decls.specs.declared.fault.TextFault.TheVariants as faults
 use Rattle.rel_decls.specs.Items.{begins_item, item_at}

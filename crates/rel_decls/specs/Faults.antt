@@ -9,8 +9,8 @@ use Rattle.rel_lexer.specs.declared.Token.{Token as LexedToken}
 use Rattle.rel_lexer.specs.Tokens.{tokens_of}
 use Rattle.rel_parse.specs.declared.fault.Fault.{Fault}
 use Rattle.rel_parse.specs.declared.fault.Fault.TheVariants as reading
-use Rattle.rel_decls.specs.declared.fault.LexKind.{LexKind}
-use Rattle.rel_decls.specs.declared.fault.LexKind.TheVariants.{BadChar, WideLiteral}
+use Rattle.rel_lang.specs.declared.fault.LexKind.{LexKind}
+use Rattle.rel_lang.specs.declared.fault.LexKind.TheVariants.{BadChar, WideLiteral}
 use Rattle.rel_decls.specs.declared.fault.TextFault.{TextFault}
 use Rattle.rel_decls.specs.declared.fault.TextFault.TheVariants as faults
 

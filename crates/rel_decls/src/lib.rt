@@ -23,8 +23,9 @@ mod proc;
 mod spec;
 mod unit;
 
-pub use fault::{LexKind, TextFault};
+pub use fault::TextFault;
 use rel_lang::bundle::Bundle;
+use rel_lang::fault::LexKind;
 use rel_lexer::{LexFault, Token, lex};
 use rel_parse::fault::Fault;
 use std::alloc::Global;

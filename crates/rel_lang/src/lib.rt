@@ -6,6 +6,8 @@ pub mod bundle;
 pub mod command;
 pub(crate) mod copies;
 pub mod expr;
+pub mod fault;
 pub mod formula;
 pub mod laws;
 pub mod relation;
+pub mod typed;

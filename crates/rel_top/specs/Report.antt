@@ -2,7 +2,7 @@
 use Rattle.std.specs.Prelude.{ℕ, List, [], ◌∷◌, ◌++◌, codes}
 use Rattle.std.specs.Fmt.{decimal}
 use Rattle.rel_lang.specs.Syntax.{Word, Item, OfClass, OfInterface, OfModule, OfUnit, OfClient, OfJudgement, OfPair}
-use Rattle.rel_decls.specs.declared.fault.LexKind.TheVariants.{BadChar, WideLiteral}
+use Rattle.rel_lang.specs.declared.fault.LexKind.TheVariants.{BadChar, WideLiteral}
 use Rattle.rel_decls.specs.declared.fault.TextFault.{TextFault}
 use Rattle.rel_decls.specs.declared.fault.TextFault.TheVariants.{NotUtf8, Lexical, Syntax, TooDeep, TooMany, Memory}
 

@@ -5,7 +5,8 @@ ghost use Rattle.rel_decls.specs.declared.fault.TextFault.TheVariants as faults;
 ghost use Rattle.rel_lang.specs.View.{item_of};
 ghost use Rattle.rel_top.specs.Report.{usage_line, fault_line, large_line, refused_line, text_fault_line, bundle_line, proof_line, kind_of, name_of as item_name, byte_of, bad_step_line, open_nodes_line, item_line, yes_line};
 
-use rel_decls::{LexKind, TextFault};
+use rel_decls::TextFault;
+use rel_lang::fault::LexKind;
 use rel_lang::bundle::Item;
 use rel_list::{Memory, Name};
 use std::alloc::Global;

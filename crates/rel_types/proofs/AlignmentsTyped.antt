@@ -8,10 +8,10 @@ use Rattle.rel_lang.specs.State.{Tables, Variable, find_variable}
 use Rattle.rel_lang.specs.Lookup.{find_judgement}
 use Rattle.rel_lang.specs.Typed as typed
 use Rattle.rel_lang.specs.Typed.{IsTypedCommand, IsTypedBicommand, IsTypedBiblock, IsTypedAct, IsTypedAlign, IsCallBy, IsTest, IsTypedFormula}
-use Rattle.rel_types.specs.Flaws.{flawless, either, fault_at, first_of}
-use Rattle.rel_types.specs.Inference.{same_type, is_class_type, flaws_of_formula, flaws_of_test}
-use Rattle.rel_types.specs.Code.{flaws_of_form, inner_fault, block_fault}
-use Rattle.rel_types.specs.Alignments.{Sides, same_subject, is_about_procedures, is_about, is_call_by, are_linked, flaws_of_link, flaws_of_relation, flaws_of_tests, flaws_of_loop, flaws_of_biform, flaws_of_act, joint_fault, bicommand_fault, inner_bifault, biblock_fault, step_fault, align_fault}
+use Rattle.rel_flaws.specs.Flaws.{flawless, either, fault_at, first_of}
+use Rattle.rel_flaws.specs.Inference.{same_type, is_class_type, flaws_of_formula, flaws_of_test}
+use Rattle.rel_flaws.specs.Code.{flaws_of_form, inner_fault, block_fault}
+use Rattle.rel_flaws.specs.Alignments.{Sides, same_subject, is_about_procedures, is_about, is_call_by, are_linked, flaws_of_link, flaws_of_relation, flaws_of_tests, flaws_of_loop, flaws_of_biform, flaws_of_act, joint_fault, bicommand_fault, inner_bifault, biblock_fault, step_fault, align_fault}
 use Rattle.rel_types.proofs.Equivalences.{iff_then, iff_back, iff_both, iff_all}
 use Rattle.rel_types.proofs.Clean.{IsClean, clean_both, HasNoFault, no_fault_at, no_fault_in_both, no_fault_in_list}
 use Rattle.rel_types.proofs.Expressions.{type_law}

@@ -9,9 +9,9 @@ use Rattle.rel_lang.specs.State.{ClassField, tables_of, class_items, fields_of, 
 use Rattle.rel_lang.specs.Scope.{globals_of}
 use Rattle.rel_lang.specs.Lookup.{interfaces_of, modules_of, find_interface, find_module, find_main, subject_of}
 use Rattle.rel_lang.specs.Typed.{AreDistinct, item_name, IsTypedInterface, IsTypedModule, IsTypedClient, IsTypedPair, IsTypedItem}
-use Rattle.rel_types.specs.Flaws.{Flaws, flawless, either, Pass, ForTwice, ForOthers, Fault, fault_at, first_of, first_in}
-use Rattle.rel_types.specs.Inference.{is_among, have_unknown_types}
-use Rattle.rel_types.specs.Alignments.{align_fault}
+use Rattle.rel_flaws.specs.Flaws.{Flaws, flawless, either, Pass, ForTwice, ForOthers, Fault, fault_at, first_of, first_in}
+use Rattle.rel_flaws.specs.Inference.{is_among, have_unknown_types}
+use Rattle.rel_flaws.specs.Alignments.{align_fault}
 use Rattle.rel_types.specs.Items.{repeats, declared_names, twice_where, globals_of_interface, flaws_of_globals, clause_fault, rel_clause_fault, proc_fault, first_named, misses_methods, init_in_module, method_in_module, signatures_of, module_body_fault, module_fault, setting_in_client, callees_in_client, flaws_of_client_proc, client_fault, interface_of_module, differ_in_interface, globals_of_side, init_of_side, method_of_side, module_sides, pair_fault, item_fault, fields_of_item, items_fault}
 use Rattle.rel_types.specs.Laws.{TypedHaveNoFault}
 use Rattle.rel_types.proofs.Clean.{IsClean, HasNoFault, or_false, first_none, no_fault_in_both, clean_both}

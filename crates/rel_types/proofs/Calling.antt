@@ -6,10 +6,10 @@ use Rattle.std.proofs.lemmas.List.{take_more, map-append}
 use Rattle.rel_lang.specs.Syntax.{Word}
 use Rattle.rel_lang.specs.State.{find_named}
 use Rattle.rel_lang.specs.Typed.{Signature}
-use Rattle.rel_types.specs.Entries.{with_entry}
-use Rattle.rel_types.specs.CodeView.{callee_of}
+use Rattle.rel_flaws.specs.Entries.{with_entry}
+use Rattle.rel_flaws.specs.CodeView.{callee_of}
 use Rattle.rel_types.specs.Called.{SameCallees, callees_seen}
-use Rattle.rel_types.specs.declared.code.Callee.{Callee}
+use Rattle.rel_flaws.specs.declared.code.Callee.{Callee}
 
 -- ---- the first of a name in two lists
 

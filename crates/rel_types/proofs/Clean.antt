@@ -3,7 +3,7 @@ use Rattle.std.proofs.Common.{◌≡◌, ℕ, Bool, true, false, ◌||◌, ◌�
 use Rattle.std.proofs.lemmas.Bool.{or_parts, or_from}
 use Rattle.std.specs.List.{AllByRecursion}
 use Rattle.rel_types.proofs.Equivalences.{iff_same, iff_then, iff_both}
-use Rattle.rel_types.specs.Flaws.{Kind, Fault, Flaws, flawless, either, Pass, ForTwice, ForOthers, at_place, fault_at, first_of, first_in}
+use Rattle.rel_flaws.specs.Flaws.{Kind, Fault, Flaws, flawless, either, Pass, ForTwice, ForOthers, at_place, fault_at, first_of, first_in}
 
 pub or_false : (a b : Bool) → ((a || b) ≡ false) ↔ ((a ≡ false) × (b ≡ false))
 or_false a b = (λ h. or_parts a b h, λ h. or_from a b h.0 h.1)

@@ -9,8 +9,8 @@ use Rattle.rel_lang.specs.State.{Tables, ByClient, find_named}
 use Rattle.rel_lang.specs.Scope.{result_name, interface_globals, client_globals, client_setting}
 use Rattle.rel_lang.specs.Lookup.{main_name, find_main}
 use Rattle.rel_lang.specs.Typed.{IsAmong, AreDistinct, names_of, Signature, signature_of_proc, signature_of_method, IsTypedProc, IsTypedInterface, client_callees, IsTypedClient}
-use Rattle.rel_types.specs.Flaws.{Flaws, flawless, either, Pass}
-use Rattle.rel_types.specs.Inference.{is_among}
+use Rattle.rel_flaws.specs.Flaws.{Flaws, flawless, either, Pass}
+use Rattle.rel_flaws.specs.Inference.{is_among}
 use Rattle.rel_types.specs.Items.{declared_names, first_named, flaws_of_globals, proc_fault, is_empty, flaws_of_client_proc, setting_in_client, callees_in_client, client_fault}
 use Rattle.rel_types.proofs.Clean.{IsClean, HasNoFault, or_false, clean_both}
 use Rattle.rel_types.proofs.Distinct.{apart_from_nothing, apart_turned, apart_is_false, among_is_false, same_from_true, true_from_same, distinct_append}

@@ -7,9 +7,9 @@ use Rattle.rel_lang.specs.Syntax.{Word, Ty, Class, Expression, Formula, Command,
 use Rattle.rel_lang.specs.State.{Tables, ClassField, find_field, find_named, Scope, Variable, find_variable}
 use Rattle.rel_lang.specs.Lookup.{main_name}
 use Rattle.rel_lang.specs.Typed.{is_code, is_test, HasType, Signature, Names, IsCode, IsTest, IsTarget, RefersTo, AreArguments, IsTypedCommand, IsTypedBlock}
-use Rattle.rel_types.specs.Flaws.{Flaws, flawless, either, fault_at}
-use Rattle.rel_types.specs.Inference.{same_type, Inferred, Exactly, fits, infer, is_class, flaws_of_formula, flaws_of_test, flaws_of_value}
-use Rattle.rel_types.specs.Code.{Code, find_callee, unknown_where, has_type, cannot_be_assigned, cannot_take, flaws_of_target, flaws_of_reference, flaws_of_arguments, flaws_of_load, flaws_of_store, flaws_of_call, flaws_of_form, inner_fault, command_fault, block_fault}
+use Rattle.rel_flaws.specs.Flaws.{Flaws, flawless, either, fault_at}
+use Rattle.rel_flaws.specs.Inference.{same_type, Inferred, Exactly, fits, infer, is_class, flaws_of_formula, flaws_of_test, flaws_of_value}
+use Rattle.rel_flaws.specs.Code.{Code, find_callee, unknown_where, has_type, cannot_be_assigned, cannot_take, flaws_of_target, flaws_of_reference, flaws_of_arguments, flaws_of_load, flaws_of_store, flaws_of_call, flaws_of_form, inner_fault, command_fault, block_fault}
 use Rattle.rel_types.proofs.Equivalences.{iff_then, iff_back, iff_both}
 use Rattle.rel_types.proofs.Clean.{IsClean, clean_both, HasNoFault, no_fault_at, no_fault_in_both}
 use Rattle.rel_types.proofs.Distinct.{apart_is_false}

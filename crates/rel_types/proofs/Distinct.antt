@@ -6,7 +6,7 @@ use Rattle.std.proofs.lemmas.Bool.{false_from_ne_true, not-false, not_from_true}
 use Rattle.std.proofs.lemmas.Slice.Eq.{bytes_eq-Decides}
 use Rattle.rel_lang.specs.Syntax.{Word}
 use Rattle.rel_lang.specs.Typed.{IsAmong, AreDistinct}
-use Rattle.rel_types.specs.Inference.{is_among}
+use Rattle.rel_flaws.specs.Inference.{is_among}
 use Rattle.rel_types.specs.Items.{repeats, same_names}
 use Rattle.rel_types.proofs.Clean.{or_false}
 

@@ -6,7 +6,7 @@ use Rattle.std.proofs.lemmas.Slice.Eq.{bytes_eq-Decides}
 use Rattle.rel_lang.specs.Syntax.{Word, Ty, Int, Rgn, Class, Expression, Var, Num, Null, Empty, Alloc, Add, Sub, Mul, Field, Single, Union, Meet, Minus, Image, Filter, Old}
 use Rattle.rel_lang.specs.State.{Tables, ClassField, find_field, Scope, Variable, find_variable}
 use Rattle.rel_lang.specs.Typed.{IsAmong, IsReferenceType, HasType}
-use Rattle.rel_types.specs.Inference.{is_among, same_type, is_class_type, Inferred, NoType, AnyClass, Exactly, fits, is_reference, have_one_type, typed_where, type_of_variable, type_of_field, type_of_image, misplaces_old, is_class, has_unknown, infer}
+use Rattle.rel_flaws.specs.Inference.{is_among, same_type, is_class_type, Inferred, NoType, AnyClass, Exactly, fits, is_reference, have_one_type, typed_where, type_of_variable, type_of_field, type_of_image, misplaces_old, is_class, has_unknown, infer}
 use Rattle.rel_types.proofs.Equivalences.{iff_back}
 
 -- ---- names

@@ -6,8 +6,8 @@ use Rattle.rel_lang.specs.Syntax.{Word, Ty, Int, Rgn, Class, Expression, Formula
 use Rattle.rel_lang.specs.State.{Tables, Scope, find_variable}
 use Rattle.rel_lang.specs.Truth.{quantified}
 use Rattle.rel_lang.specs.Typed.{HasType, IsTypedFormula}
-use Rattle.rel_types.specs.Flaws.{Flaws, flawless, either}
-use Rattle.rel_types.specs.Inference.{Inferred, fits, is_reference, have_one_type, infer, is_class, flaws_of_formula, flaws_of_region}
+use Rattle.rel_flaws.specs.Flaws.{Flaws, flawless, either}
+use Rattle.rel_flaws.specs.Inference.{Inferred, fits, is_reference, have_one_type, infer, is_class, flaws_of_formula, flaws_of_region}
 use Rattle.rel_types.proofs.Equivalences.{iff_then, iff_back, iff_both}
 use Rattle.rel_types.proofs.Clean.{IsClean, clean_both}
 use Rattle.rel_types.proofs.Expressions.{AreFine, among_law, reference_law, one_type_law, expression_law}

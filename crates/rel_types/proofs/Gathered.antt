@@ -2,7 +2,7 @@
 use Rattle.std.proofs.Common.{◌≡◌, ℕ, ◌<◌, ◌+◌, List, [], ◌∷◌, ◌++◌, map, take, get_or, length, refl, sym, ap, ◌∙◌}
 use Rattle.std.proofs.lemmas.List.{take_more, map-append}
 use Rattle.rel_lang.specs.State.{Tables}
-use Rattle.rel_types.specs.Flaws.{Flaws, flawless, either}
+use Rattle.rel_flaws.specs.Flaws.{Flaws, flawless, either}
 use Rattle.rel_types.specs.Items.{flaws_of_all}
 use Rattle.rel_types.proofs.Repeats.{or_assoc, or_false}
 

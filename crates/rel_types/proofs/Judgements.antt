@@ -7,9 +7,9 @@ use Rattle.rel_lang.specs.State.{tables_of}
 use Rattle.rel_lang.specs.Scope.{globals_of, init_setting, method_setting, unit_setting, pre_scope, post_scope}
 use Rattle.rel_lang.specs.Lookup.{judgements_of, find_body, Subject}
 use Rattle.rel_lang.specs.Typed.{IsTypedAlign, IsTypedInterface, IsTypedModule, IsTypedBody, IsTypedJudgement, module_sides as typed_module_sides, IsTypedAlignOf, IsTypedPair}
-use Rattle.rel_types.specs.Flaws.{Flaws, flawless, either, Pass, ForTwice, Fault, first_of, first_in}
-use Rattle.rel_types.specs.Code.{unknown_where}
-use Rattle.rel_types.specs.Alignments.{Sides, align_fault}
+use Rattle.rel_flaws.specs.Flaws.{Flaws, flawless, either, Pass, ForTwice, Fault, first_of, first_in}
+use Rattle.rel_flaws.specs.Code.{unknown_where}
+use Rattle.rel_flaws.specs.Alignments.{Sides, align_fault}
 use Rattle.rel_types.specs.Items.{rel_clause_fault, setting_in_module, code_of_subject, pre_scope_of_subject, post_scope_of_subject, globals_of_side, code_in_module, init_of_side, method_of_side, differ_in_interface, misses_methods, judgement_fault, module_sides, pair_fault}
 use Rattle.rel_types.proofs.Clean.{IsClean, HasNoFault, or_false, no_fault_in_both, no_fault_in_list, clean_both}
 use Rattle.rel_types.proofs.Distinct.{not_is_false, same_names_are_same, same_from_true, true_from_same}

@@ -5,10 +5,10 @@ use Rattle.rel_lang.specs.Syntax.{Word, Class, Expression, Formula, RelFormula, 
 use Rattle.rel_lang.specs.State.{Tables, ClassField, find_field, Scope, Variable, find_variable}
 use Rattle.rel_lang.specs.Lookup.{main_name, find_judgement}
 use Rattle.rel_lang.specs.Typed.{Signature}
-use Rattle.rel_types.specs.Flaws.{Flaws, flawless, either, Pass, Fault, fault_at, first_of, first_in}
-use Rattle.rel_types.specs.Inference.{Inferred, Exactly, infer, is_class}
-use Rattle.rel_types.specs.Code.{Code, find_callee, unknown_where, has_type, cannot_be_assigned, cannot_take, flaws_of_target, flaws_of_reference, flaws_of_arguments, flaws_of_load, flaws_of_store, flaws_of_call, flaws_of_form, command_fault, inner_fault, block_fault}
-use Rattle.rel_types.specs.Alignments.{Sides, is_about, is_about_procedures, is_call_by, are_linked, flaws_of_link, flaws_of_relation, flaws_of_tests, flaws_of_loop, flaws_of_biform, flaws_of_act, joint_fault, bicommand_fault, inner_bifault, biblock_fault, step_fault, align_fault}
+use Rattle.rel_flaws.specs.Flaws.{Flaws, flawless, either, Pass, Fault, fault_at, first_of, first_in}
+use Rattle.rel_flaws.specs.Inference.{Inferred, Exactly, infer, is_class}
+use Rattle.rel_flaws.specs.Code.{Code, find_callee, unknown_where, has_type, cannot_be_assigned, cannot_take, flaws_of_target, flaws_of_reference, flaws_of_arguments, flaws_of_load, flaws_of_store, flaws_of_call, flaws_of_form, command_fault, inner_fault, block_fault}
+use Rattle.rel_flaws.specs.Alignments.{Sides, is_about, is_about_procedures, is_call_by, are_linked, flaws_of_link, flaws_of_relation, flaws_of_tests, flaws_of_loop, flaws_of_biform, flaws_of_act, joint_fault, bicommand_fault, inner_bifault, biblock_fault, step_fault, align_fault}
 use Rattle.rel_types.specs.Lookups.{without_owner, SameLookups, SameCode, SameSides}
 use Rattle.rel_types.proofs.Lookups.{asked, infer_same, formula_same, rel_same, test_same, code_same, value_same}
 

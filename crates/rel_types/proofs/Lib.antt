@@ -13,11 +13,6 @@ pub mod Modules
 pub mod Clients
 pub mod Judgements
 pub mod Bundles
-pub mod Indexes
-pub mod Callees
-pub mod Firsts
-pub mod FoundJudgements
-pub mod BiFirsts
 pub mod SameSubjects
 pub mod Declaring
 pub mod Knowledge

@@ -5,8 +5,8 @@ use Rattle.rel_lang.specs.Syntax.{Word, Ty, Int, Rgn, Left, Right, Expression, V
 use Rattle.rel_lang.specs.State.{Tables, find_field, Scope, Variable, find_variable}
 use Rattle.rel_lang.specs.Truth.{quantified}
 use Rattle.rel_lang.specs.Typed.{is_code, is_test}
-use Rattle.rel_types.specs.Flaws.{Flaws, flawless}
-use Rattle.rel_types.specs.Inference.{is_in_scope, fits, is_reference, have_one_type, typed_where, type_of_variable, type_of_field, type_of_image, misplaces_old, is_class, is_field, has_unknown, formula_has_unknown, rel_has_unknown, binds_twice, rel_binds_twice, infer, is_ill_typed, rel_is_ill_typed, flaws_of_formula, flaws_of_rel, flaws_of_test, flaws_of_code, flaws_of_value, flaws_of_region}
+use Rattle.rel_flaws.specs.Flaws.{Flaws, flawless}
+use Rattle.rel_flaws.specs.Inference.{is_in_scope, fits, is_reference, have_one_type, typed_where, type_of_variable, type_of_field, type_of_image, misplaces_old, is_class, is_field, has_unknown, formula_has_unknown, rel_has_unknown, binds_twice, rel_binds_twice, infer, is_ill_typed, rel_is_ill_typed, flaws_of_formula, flaws_of_rel, flaws_of_test, flaws_of_code, flaws_of_value, flaws_of_region}
 use Rattle.rel_types.specs.Lookups.{without_owner, SameLookups}
 
 -- ---- scopes

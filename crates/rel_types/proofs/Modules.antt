@@ -9,9 +9,9 @@ use Rattle.rel_lang.specs.Scope.{Setting, result_name, result_variable, interfac
 use Rattle.rel_lang.specs.Lookup.{find_body}
 use Rattle.rel_lang.specs.Typed.{AreDistinct, names_of, Signature, HaveTypes, IsTypedBlock, IsTypedBody, IsTypedInterface, IsTypedModule}
 use Rattle.rel_lang.proofs.Writes.{all_everywhere}
-use Rattle.rel_types.specs.Flaws.{Flaws, flawless, either, Pass, first_of, first_in}
-use Rattle.rel_types.specs.Inference.{have_unknown_types}
-use Rattle.rel_types.specs.Code.{block_fault}
+use Rattle.rel_flaws.specs.Flaws.{Flaws, flawless, either, Pass, first_of, first_in}
+use Rattle.rel_flaws.specs.Inference.{have_unknown_types}
+use Rattle.rel_flaws.specs.Code.{block_fault}
 use Rattle.rel_types.specs.Items.{repeats, declared_names, seen_by_members, flaws_of_globals, clause_fault, module_body_fault, setting_in_module, init_in_module, method_in_module, signatures_of, misses_methods, module_fault}
 use Rattle.rel_types.proofs.Clean.{IsClean, HasNoFault, no_fault_in_both, no_fault_in_list, clean_both}
 use Rattle.rel_types.proofs.Distinct.{same_names_are_same, distinct_append}

@@ -4,7 +4,7 @@ use Rattle.std.proofs.lemmas.List.{map-append}
 use Rattle.rel_lang.specs.Syntax.{Word, Ty, Decl}
 use Rattle.rel_lang.specs.State.{Scope, ByCall, ByQuantifier}
 use Rattle.rel_lang.specs.Scope.{declared, result_variable}
-use Rattle.rel_types.specs.Inference.{is_among}
+use Rattle.rel_flaws.specs.Inference.{is_among}
 use Rattle.rel_types.specs.Items.{repeats, declared_names}
 use Rattle.rel_types.specs.Lookups.{SameLookups, SameNames}
 use Rattle.rel_types.proofs.Lookups.{same_after}

@@ -6,7 +6,7 @@ use Rattle.rel_lang.specs.Syntax.{Rgn, Left, Right, RelFormula, RelTrue, RelFals
 use Rattle.rel_lang.specs.State.{Tables, find_field, Scope, find_variable}
 use Rattle.rel_lang.specs.Truth.{quantified}
 use Rattle.rel_lang.specs.Typed.{HasType, IsTypedRel}
-use Rattle.rel_types.specs.Inference.{infer, is_class, flaws_of_rel}
+use Rattle.rel_flaws.specs.Inference.{infer, is_class, flaws_of_rel}
 use Rattle.rel_types.proofs.Equivalences.{iff_then, iff_back}
 use Rattle.rel_types.proofs.Clean.{IsClean}
 use Rattle.rel_types.proofs.Expressions.{AreFine, among_law, expression_law}

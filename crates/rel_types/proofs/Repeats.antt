@@ -8,9 +8,9 @@ use Rattle.rel_lang.specs.State.{Scope, find_variable}
 use Rattle.rel_lang.specs.Typed.{names_of}
 use Rattle.rel_lang.specs.View.{decl_of}
 use Rattle.rel_lang.specs.declared.bundle.Decl.{Decl}
-use Rattle.rel_types.specs.Inference.{is_among, is_in_scope}
+use Rattle.rel_flaws.specs.Inference.{is_among, is_in_scope}
 use Rattle.rel_types.specs.Items.{repeats, declared_names}
-use Rattle.rel_types.specs.Entries.{with_entry}
+use Rattle.rel_flaws.specs.Entries.{with_entry}
 use Rattle.rel_types.specs.Lookups.{SameLookups, SameNames, names_in}
 use Rattle.rel_types.proofs.Lookups.{in_same}
 

@@ -4,13 +4,13 @@ use Rattle.rel_lang.specs.Syntax.{Decl, Place, Effect, Global, Locations, Clause
 use Rattle.rel_lang.specs.State.{Tables, Owner, ByQuantifier, Scope}
 use Rattle.rel_lang.specs.Scope.{Setting, declared, result_variable, globals_of, parameters_of, own_variables, pre_scope, post_scope, body_scope}
 use Rattle.rel_lang.specs.Truth.{quantified}
-use Rattle.rel_types.specs.Flaws.{Flaws, either, Pass, fault_at}
-use Rattle.rel_types.specs.Inference.{is_field}
-use Rattle.rel_types.specs.Code.{unknown_where}
+use Rattle.rel_flaws.specs.Flaws.{Flaws, either, Pass, fault_at}
+use Rattle.rel_flaws.specs.Inference.{is_field}
+use Rattle.rel_flaws.specs.Code.{unknown_where}
 use Rattle.rel_types.specs.Items.{flaws_of_place, flaws_of_effect, flaws_of_all, clause_fault, rel_clause_fault}
 use Rattle.rel_types.specs.Lookups.{SameLookups}
-use Rattle.rel_types.specs.View.{declared_of, scope_of}
-use Rattle.rel_types.specs.declared.scope.Scope as S
+use Rattle.rel_flaws.specs.View.{declared_of, scope_of}
+use Rattle.rel_flaws.specs.declared.scope.Scope as S
 use Rattle.rel_types.proofs.Lookups.{same_after, in_same, formula_same, rel_same, region_same}
 use Rattle.rel_types.proofs.Declaring.{same_then, same_declared}
 

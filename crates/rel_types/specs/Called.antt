@@ -3,8 +3,8 @@ use Rattle.std.specs.Prelude.{◌≡◌, List, map}
 use Rattle.rel_lang.specs.Syntax.{Word}
 use Rattle.rel_lang.specs.State.{find_named}
 use Rattle.rel_lang.specs.Typed.{Signature}
-use Rattle.rel_types.specs.CodeView.{callee_of}
-use Rattle.rel_types.specs.declared.code.Callee.{Callee}
+use Rattle.rel_flaws.specs.CodeView.{callee_of}
+use Rattle.rel_flaws.specs.declared.code.Callee.{Callee}
 
 abbrev pub SameCallees : List Signature → List Signature → Type 0
 SameCallees ss ts = (x : Word) → find_named (λ q. q.name) x ss ≡ find_named (λ q. q.name) x ts

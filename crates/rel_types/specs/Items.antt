@@ -5,10 +5,10 @@ use Rattle.rel_lang.specs.State.{Tables, tables_of, Scope}
 use Rattle.rel_lang.specs.Scope.{Setting, result_name, interface_globals, client_globals, module_globals, globals_of, pre_scope, post_scope, body_scope, unit_setting, signature_setting}
 use Rattle.rel_lang.specs.Lookup.{judgements_of, find_interface, find_module, find_method, find_body, find_main, main_name, Subject, subject_of}
 use Rattle.rel_lang.specs.Typed.{Signature, signature_of_proc, signature_of_method, item_name, names_of}
-use Rattle.rel_types.specs.Flaws.{Flaws, flawless, either, Pass, Fault, fault_at, first_of, first_in, ForTwice, ForOthers}
-use Rattle.rel_types.specs.Inference.{is_among, is_field, is_in_scope, names_unknown_class, have_unknown_types, flaws_of_formula, flaws_of_rel, flaws_of_region}
-use Rattle.rel_types.specs.Code.{Code, unknown_where, block_fault}
-use Rattle.rel_types.specs.Alignments.{Sides, align_fault}
+use Rattle.rel_flaws.specs.Flaws.{Flaws, flawless, either, Pass, Fault, fault_at, first_of, first_in, ForTwice, ForOthers}
+use Rattle.rel_flaws.specs.Inference.{is_among, is_field, is_in_scope, names_unknown_class, have_unknown_types, flaws_of_formula, flaws_of_rel, flaws_of_region}
+use Rattle.rel_flaws.specs.Code.{Code, unknown_where, block_fault}
+use Rattle.rel_flaws.specs.Alignments.{Sides, align_fault}
 
 -- ---- names that are declared again
 

@@ -1,13 +1,5 @@
-pub mod Flaws
-pub mod Inference
-pub mod Code
-pub mod Alignments
 pub mod Items
 pub mod Laws
-pub mod Entries
 pub mod Lookups
 pub mod Called
-pub mod View
-pub mod CodeView
-pub mod AlignmentView
 pub mod OwnView

@@ -4,11 +4,11 @@ use denote.Ref.{Bor}
 use Rattle.rel_lang.specs.Syntax.{Word}
 use Rattle.rel_lang.specs.State.{ByQuantifier, Variable, Scope, find_variable}
 use Rattle.rel_lang.specs.Lookup.{find_judgement}
-use Rattle.rel_types.specs.Inference.{is_among}
-use Rattle.rel_types.specs.View.{variable_of}
-use Rattle.rel_types.specs.declared.scope.Seen.{Seen}
-use Rattle.rel_types.specs.Code.{Code, find_callee}
-use Rattle.rel_types.specs.Alignments.{Sides}
+use Rattle.rel_flaws.specs.Inference.{is_among}
+use Rattle.rel_flaws.specs.View.{variable_of}
+use Rattle.rel_flaws.specs.declared.scope.Seen.{Seen}
+use Rattle.rel_flaws.specs.Code.{Code, find_callee}
+use Rattle.rel_flaws.specs.Alignments.{Sides}
 
 -- the variable, whoever owns it
 abbrev pub without_owner : Variable → Variable

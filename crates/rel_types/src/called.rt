@@ -5,9 +5,9 @@ ghost use Rattle.rel_lang.specs.Typed.{signature_of_proc};
 ghost use Rattle.rel_lang.specs.View.{proc_of};
 ghost use Rattle.rel_types.specs.Called.{SameCallees, callees_seen};
 
-use crate::code::Callee;
-use crate::index::Index;
-use crate::types::Type;
+use rel_flaws::code::Callee;
+use rel_flaws::index::Index;
+use rel_flaws::types::Type;
 use rel_lang::bundle::Proc;
 use rel_list::{List, Memory};
 

@@ -6,9 +6,9 @@ ghost use Rattle.rel_lang.specs.State.{ByCall, ByQuantifier};
 ghost use Rattle.rel_lang.specs.View.{decl_of, type_of};
 ghost use Rattle.rel_types.specs.Lookups.{SameLookups, variables_seen};
 
-use crate::index::Index;
-use crate::scope::Seen;
-use crate::types::Type;
+use rel_flaws::index::Index;
+use rel_flaws::scope::Seen;
+use rel_flaws::types::Type;
 use rel_lang::bundle::Decl;
 use rel_lang::expr::Ty;
 use rel_list::{List, Memory};

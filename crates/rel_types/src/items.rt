@@ -3,19 +3,19 @@
 ghost use Rattle.std.specs.Prelude.{◌≡◌, map, true, false, not, option_map, IfOk, OnOk, ◌++◌};
 ghost use Rattle.rel_lang.specs.State as state;
 ghost use Rattle.rel_lang.specs.View.{type_of, decl_of, place_of, effect_of, clause_of, rel_clause_of, class_of};
-ghost use Rattle.rel_types.specs.Flaws.{flawless};
-ghost use Rattle.rel_types.specs.Inference as inference;
+ghost use Rattle.rel_flaws.specs.Flaws.{flawless};
+ghost use Rattle.rel_flaws.specs.Inference as inference;
 ghost use Rattle.rel_types.specs.Items as items;
 ghost use Rattle.rel_types.specs.Lookups.{SameNames, names_in, variables_seen};
-ghost use Rattle.rel_types.specs.View.{scope_of, tables_seen, flaws_of, fault_of, pass_of};
+ghost use Rattle.rel_flaws.specs.View.{scope_of, tables_seen, flaws_of, fault_of, pass_of};
 
-use crate::formula::flaws_of_formula;
-use crate::index::Index;
-use crate::kind::{Fault, Flaws, Pass};
+use rel_flaws::formula::flaws_of_formula;
+use rel_flaws::index::Index;
+use rel_flaws::kind::{Fault, Flaws, Pass};
 use crate::names::add_names;
-use crate::relation::flaws_of_rel;
-use crate::scope::{Scope, Tables};
-use crate::uses::flaws_of_region;
+use rel_flaws::relation::flaws_of_rel;
+use rel_flaws::scope::{Scope, Tables};
+use rel_flaws::uses::flaws_of_region;
 use rel_lang::bundle::{Class, Clause, Decl, Effect, Place, RelClause};
 use rel_lang::expr::Ty;
 use rel_list::{List, Memory};

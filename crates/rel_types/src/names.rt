@@ -2,16 +2,16 @@
 
 ghost use Rattle.std.specs.Prelude.{◌≡◌, ◌++◌, ◌∷◌, [], map, OnOk, IfOk};
 ghost use Rattle.rel_lang.specs.View.{decl_of};
-ghost use Rattle.rel_types.specs.Inference.{is_among};
+ghost use Rattle.rel_flaws.specs.Inference.{is_among};
 ghost use Rattle.rel_types.specs.Items.{repeats, declared_names};
 ghost use Rattle.rel_types.specs.Lookups.{SameNames, names_in, names_before};
 
-use crate::index::Index;
+use rel_flaws::index::Index;
 use rel_lang::bundle::Decl;
 use rel_list::{List, Memory};
 
 /// Whether the name is among these.
-#[tactic(auto, using(crate::proofs::Indexes::indexes))]
+#[tactic(auto, using(rel_flaws::proofs::Indexes::indexes))]
 pub(crate) fn is_named(names: &Index<'_, ()>, name: &str) -> bool
     ensures { result ≡ is_among name.now (names_in names.now) }
 {

@@ -3,17 +3,17 @@
 ghost use Rattle.std.specs.Prelude.{◌≡◌, ◌++◌, true, false, OnOk, IfOk};
 ghost use Rattle.rel_lang.specs.Scope.{declared, result_variable};
 ghost use Rattle.rel_lang.specs.State.{ByCall, ByQuantifier};
-ghost use Rattle.rel_types.specs.Inference as inference;
+ghost use Rattle.rel_flaws.specs.Inference as inference;
 ghost use Rattle.rel_types.specs.Items.{repeats, declared_names};
 ghost use Rattle.rel_types.specs.Lookups.{SameLookups, SameNames, names_in, variables_seen};
 ghost use Rattle.rel_types.specs.OwnView.{decls_in, type_in};
-ghost use Rattle.rel_types.specs.View.{tables_seen};
+ghost use Rattle.rel_flaws.specs.View.{tables_seen};
 
 use crate::declarations::{add_all, add_result};
-use crate::index::Index;
+use rel_flaws::index::Index;
 use crate::items::have_unknown_types;
 use crate::names::add_names;
-use crate::scope::{Seen, Tables};
+use rel_flaws::scope::{Seen, Tables};
 use rel_lang::bundle::Decl;
 use rel_lang::expr::Ty;
 use rel_list::{List, Memory};

@@ -1,6 +1,6 @@
 use Rattle.std.proofs.Common.{ap, ap₂, ◌∙◌, map}
 use Rattle.rel_lang.specs.View.{decl_of}
-use Rattle.rel_types.specs.Flaws.{Flaws, flawless}
+use Rattle.rel_flaws.specs.Flaws.{Flaws, flawless}
 use Rattle.rel_types.specs.Items.{seen_by_members, declared_names}
 use Rattle.rel_types.specs.Lookups.{names_in}
 use Rattle.rel_types.proofs.Repeats.{repeats_behind}

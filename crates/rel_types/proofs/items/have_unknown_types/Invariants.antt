@@ -1,7 +1,7 @@
 use Rattle.std.proofs.Common.{◌≡◌, map, take}
 use Rattle.rel_lang.specs.View.{decl_of}
-use Rattle.rel_types.specs.Inference as inference
-use Rattle.rel_types.specs.View.{tables_seen}
+use Rattle.rel_flaws.specs.Inference as inference
+use Rattle.rel_flaws.specs.View.{tables_seen}
 use Rattle.rel_types.proofs.items.have_unknown_types.Given as goal
 
 abbrev pub invariant-loop-decl : goal.invariant-loop-decl

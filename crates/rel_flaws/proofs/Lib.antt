@@ -1,0 +1,5 @@
+pub mod Indexes
+pub mod Callees
+pub mod Firsts
+pub mod FoundJudgements
+pub mod BiFirsts

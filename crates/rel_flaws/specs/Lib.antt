@@ -1,0 +1,9 @@
+pub mod Flaws
+pub mod Inference
+pub mod Code
+pub mod Alignments
+pub mod Entries
+pub mod Parts
+pub mod View
+pub mod CodeView
+pub mod AlignmentView

@@ -1,5 +1,0 @@
-use Rattle.rel_types.proofs.Indexes.{looked_up}
-use Rattle.rel_types.proofs.index.Index.get.Goals as goal
-
-pub returns : goal.returns
-returns g c = let e = looked_up c.args.name.now c.self.inside.entries.entries in cc
