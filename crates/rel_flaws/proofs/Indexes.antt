@@ -16,6 +16,10 @@ use Rattle.rel_flaws.specs.declared.scope.SeenField.{SeenField}
 use Rattle.rel_flaws.specs.declared.scope.Seen.{Seen}
 use Rattle.rel_flaws.specs.declared.scope.Scope as S
 
+pub some_of_map : {A B : Type 0} (f : A → B) (o : Option A) → is_some (option_map f o) ≡ is_some o
+some_of_map f None = refl
+some_of_map f (Some a) = refl
+
 -- ---- what `indexmap` finds and adds
 
 abbrev pub entries : {V : Type 0} → List (Bor (List ℕ) × V) → List (Word × V)
@@ -151,4 +155,4 @@ pub step_passed : (x : Word) (qs : List (Bor Word × Bor Word)) (i : ℕ) (d : B
     → bytes_eq x (get_or qs i d).0.now ≡ false → find_entry x (last_first (take i qs)) ≡ find_entry x (last_first (take (i + 1) qs))
 step_passed x qs i d h e = rw (one_more qs i d h, e) refl
 
-pub ruleset indexes = (looked_up, added, kept, is_listed, found_field)
+pub ruleset indexes = (some_of_map, looked_up, added, kept, is_listed, found_field)

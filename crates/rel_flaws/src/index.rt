@@ -1,6 +1,6 @@
 //! Names in order of declaration, each with what is known of it.
 
-ghost use Rattle.std.specs.Prelude.{◌≡◌, [], OnOk, option_map};
+ghost use Rattle.std.specs.Prelude.{◌≡◌, [], OnOk, option_map, is_some};
 ghost use Rattle.rel_flaws.specs.Entries.{find_entry, with_entry};
 
 use indexmap::IndexMap;
@@ -38,11 +38,17 @@ impl<'a, V: Drop> Index<'a, V> {
         self.entries.get(name)
     }
 
+    pub fn has(&self, name: &str) -> bool
+        ensures { result ≡ is_some (find_entry name.now self.now) }
+    {
+        self.find(name).is_some()
+    }
+
     /// Adds a name, unless it is there.
     pub fn insert(&mut self, name: &'a str, value: V) -> Result<(), Memory>
         ensures { OnOk result (self.new ≡ with_entry self.old name.now value) }
     {
-        if self.find(name).is_some() {
+        if self.has(name) {
             return Ok(());
         }
         self.entries.insert(name, value)?;

@@ -24,10 +24,10 @@ pub struct SeenField<'a> {
     pub ty: Type<'a>,
 }
 
-/// The classes and the fields.
+/// The classes, each with its number in order of declaration, and the fields.
 #[derive(Drop)]
 pub struct Tables<'a> {
-    pub classes: Index<'a, ()>,
+    pub classes: Index<'a, u32>,
     pub fields: Index<'a, SeenField<'a>>,
 }
 
@@ -86,7 +86,7 @@ pub struct Layers<'a, 's> {
 impl<'a, 's> Layers<'a, 's> {
     /// The global of this name.
     pub fn global(self, name: &str) -> Option<Seen<'a>>
-        ensures { option_map (variable_of name.now) result ≡ find_variable name.now (globals_seen self) }
+        ensures { option_map (variable_of name.now) result ≡ find_variable name.now (globals_seen self.entry) }
     {
         match self.interface.get(name) {
             Some(seen) => Some(seen),
@@ -96,7 +96,7 @@ impl<'a, 's> Layers<'a, 's> {
 
     // The parameter, local or `result` of this name.
     fn own(self, name: &str) -> Option<Seen<'a>>
-        ensures { option_map (variable_of name.now) result ≡ find_variable name.now (own_seen self) }
+        ensures { option_map (variable_of name.now) result ≡ find_variable name.now (own_seen self.entry) }
     {
         match self.params.get(name) {
             Some(seen) => Some(seen),
@@ -109,7 +109,7 @@ impl<'a, 's> Layers<'a, 's> {
 
     /// The variable of this name.
     pub fn find(self, name: &str) -> Option<Seen<'a>>
-        ensures { option_map (variable_of name.now) result ≡ find_variable name.now (layers_seen self) }
+        ensures { option_map (variable_of name.now) result ≡ find_variable name.now (layers_seen self.entry) }
     {
         match self.global(name) {
             Some(seen) => Some(seen),
@@ -128,7 +128,7 @@ pub struct Scope<'a, 's> {
 impl<'a, 's> Scope<'a, 's> {
     /// The layers, with nothing quantified.
     pub fn new(alloc: Global, layers: Layers<'a, 's>) -> Scope<'a, 's>
-        ensures { scope_of result ≡ layers_seen layers }
+        ensures { scope_of result ≡ layers_seen layers.entry }
     {
         Scope {
             quantified: Binders::new(alloc),

@@ -8,7 +8,8 @@ use Rattle.rel_lang.specs.State.{find_named}
 use Rattle.rel_lang.specs.Typed.{Signature}
 use Rattle.rel_flaws.specs.Entries.{with_entry}
 use Rattle.rel_flaws.specs.CodeView.{callee_of}
-use Rattle.rel_types.specs.Called.{SameCallees, callees_seen}
+use Rattle.rel_flaws.specs.CodeView.{callees_seen}
+use Rattle.rel_types.specs.Called.{SameCallees}
 use Rattle.rel_flaws.specs.declared.code.Callee.{Callee}
 
 -- ---- the first of a name in two lists

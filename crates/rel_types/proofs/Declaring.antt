@@ -11,8 +11,8 @@ use Rattle.rel_lang.specs.View.{decl_of}
 use Rattle.rel_lang.specs.declared.bundle.Decl.{Decl}
 use Rattle.rel_flaws.specs.Inference.{is_in_scope}
 use Rattle.rel_flaws.specs.Entries.{find_entry, with_entry}
-use Rattle.rel_flaws.specs.View.{variable_of}
-use Rattle.rel_types.specs.Lookups.{without_owner, SameLookups, variables_seen}
+use Rattle.rel_flaws.specs.View.{variable_of, variables_seen}
+use Rattle.rel_types.specs.Lookups.{without_owner, SameLookups}
 use Rattle.rel_flaws.specs.declared.scope.Seen.{Seen}
 use Rattle.rel_types.proofs.Lookups.{or_else, found_before, same_after}
 

@@ -8,11 +8,11 @@ pub mod AlignmentsTyped
 pub mod Distinct
 pub mod Matches
 pub mod Procedures
-pub mod Units
-pub mod Modules
-pub mod Clients
-pub mod Judgements
-pub mod Bundles
+pub mod TypedUnits
+pub mod TypedModules
+pub mod TypedClients
+pub mod TypedJudgements
+pub mod TypedBundles
 pub mod SameSubjects
 pub mod Declaring
 pub mod Knowledge

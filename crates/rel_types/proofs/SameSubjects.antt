@@ -4,16 +4,10 @@ use Rattle.std.specs.Prelude.{Bool, false, not, ◌&&◌, is_some}
 use Rattle.rel_lang.specs.Syntax.{Word, Judgement, Command, At, Skip, Assign, Load, Store, New, Call, If, While, BiCommand, BiAt, BiForm, Split, Sync, SyncCall, BiIf, BiWhile, Link, Note, BiBlock, BiEnd, BiThen, Act, ActSeq, ActSync, ActCall, ActIf, ActWhile, ActLink, ActNote, ActDrop, WeaveStep, Align, Given, Woven}
 use Rattle.rel_lang.specs.State.{Tables}
 use Rattle.rel_lang.specs.Lookup.{find_judgement}
+use Rattle.rel_types.specs.Known.{subjects, SameSubjects}
 use Rattle.rel_flaws.specs.Flaws.{Pass, fault_at, first_of, first_in}
 use Rattle.rel_flaws.specs.Code.{unknown_where}
 use Rattle.rel_flaws.specs.Alignments.{Sides, same_subject, is_about_procedures, is_about, is_call_by, flaws_of_biform, flaws_of_act, joint_fault, bicommand_fault, inner_bifault, biblock_fault, step_fault, align_fault}
-
--- whom a judgement is about
-abbrev pub subjects : Judgement → (Word × Word) × (Word × Word)
-subjects j = (j.left, j.right)
-
-abbrev pub SameSubjects : List Judgement → List Judgement → Type 0
-SameSubjects js ks = (x : Word) → option_map subjects (find_judgement x js) ≡ option_map subjects (find_judgement x ks)
 
 abbrev are_about : Word → Word × Word → Option ((Word × Word) × (Word × Word)) → Bool
 are_about p u None = false

@@ -3,14 +3,11 @@ use Rattle.std.proofs.Common.{◌≡◌, Bool, not, List, [], ◌∷◌, ◌++�
 use Rattle.rel_lang.specs.Syntax.{Decl, Place, Effect, Global, Locations, Clause, RelClause}
 use Rattle.rel_lang.specs.State.{Tables, Owner, ByQuantifier, Scope}
 use Rattle.rel_lang.specs.Scope.{Setting, declared, result_variable, globals_of, parameters_of, own_variables, pre_scope, post_scope, body_scope}
-use Rattle.rel_lang.specs.Truth.{quantified}
 use Rattle.rel_flaws.specs.Flaws.{Flaws, either, Pass, fault_at}
 use Rattle.rel_flaws.specs.Inference.{is_field}
 use Rattle.rel_flaws.specs.Code.{unknown_where}
 use Rattle.rel_types.specs.Items.{flaws_of_place, flaws_of_effect, flaws_of_all, clause_fault, rel_clause_fault}
 use Rattle.rel_types.specs.Lookups.{SameLookups}
-use Rattle.rel_flaws.specs.View.{declared_of, scope_of}
-use Rattle.rel_flaws.specs.declared.scope.Scope as S
 use Rattle.rel_types.proofs.Lookups.{same_after, in_same, formula_same, rel_same, region_same}
 use Rattle.rel_types.proofs.Declaring.{same_then, same_declared}
 
@@ -35,10 +32,6 @@ pub body_same : (g : Setting) (globals own : Scope) → SameLookups globals (glo
 body_same g globals own h k =
     subst (SameLookups (globals ++ own)) (sym (append_assoc (globals_of g) (parameters_of g) (own_variables g)))
     (same_after globals own (globals_of g) (parameters_of g ++ own_variables g) h k)
-
--- a scope with no quantified name
-pub plain_scope : (s : S.Scope) → s.quantified ≡ [] → scope_of s ≡ declared_of s
-plain_scope s e = ap (λ q. map (λ p. quantified p.0 p.1) q ++ declared_of s) e
 
 -- ---- clauses, places and effects
 

@@ -152,10 +152,11 @@ module _ (tables : Tables) where
     class_fault seen more c =
         fault_at pass c.at (either more (record flawless { twice = repeats seen (declared_names c.fields); unknown = have_unknown_types tables c.fields }))
 
+    abbrev pub sig_fault : Setting → Flaws → Sig → Option Fault
+    sig_fault g more q = first_of (fault_at pass q.at (either more (flaws_of_head g q.spec.writes q.result))) (clauses_fault g q.spec)
+
     abbrev pub method_fault : Interface → List Word → Sig → Option Fault
-    method_fault i seen q =
-        let g = signature_setting i q in
-        first_of (fault_at pass q.at (either (twice_where (is_among q.name seen)) (flaws_of_head g q.spec.writes q.result))) (clauses_fault g q.spec)
+    method_fault i seen q = sig_fault (signature_setting i q) (twice_where (is_among q.name seen)) q
 
     abbrev pub interface_fault : Flaws → Interface → Option Fault
     interface_fault more i =

@@ -3,3 +3,4 @@ pub mod Laws
 pub mod Lookups
 pub mod Called
 pub mod OwnView
+pub mod Known

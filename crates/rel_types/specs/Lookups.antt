@@ -1,12 +1,10 @@
 -- When two scopes give the same for each name, and code and alignments know the same.
-use Rattle.std.specs.Prelude.{◌≡◌, List, [], map, Option, Some, None, option_map}
-use denote.Ref.{Bor}
+use Rattle.std.specs.Prelude.{◌≡◌, List, map, option_map}
 use Rattle.rel_lang.specs.Syntax.{Word}
-use Rattle.rel_lang.specs.State.{ByQuantifier, Variable, Scope, find_variable}
+use Rattle.rel_lang.specs.State.{ByQuantifier, Tables, find_field, Variable, Scope, find_variable}
+use Rattle.rel_lang.specs.Scope.{Setting}
 use Rattle.rel_lang.specs.Lookup.{find_judgement}
-use Rattle.rel_flaws.specs.Inference.{is_among}
-use Rattle.rel_flaws.specs.View.{variable_of}
-use Rattle.rel_flaws.specs.declared.scope.Seen.{Seen}
+use Rattle.rel_flaws.specs.Inference.{is_among, is_class}
 use Rattle.rel_flaws.specs.Code.{Code, find_callee}
 use Rattle.rel_flaws.specs.Alignments.{Sides}
 
@@ -16,10 +14,6 @@ without_owner v = record v { owner = ByQuantifier }
 
 abbrev pub SameLookups : Scope → Scope → Type 0
 SameLookups sc sd = (x : Word) → option_map without_owner (find_variable x sc) ≡ option_map without_owner (find_variable x sd)
-
--- the variables that an index has, by name
-abbrev pub variables_seen : List (Word × Seen) → Scope
-variables_seen es = map (λ e. variable_of e.0 e.1) es
 
 pub record SameCode (c d : Code) : Type 0 where
   pub scope : SameLookups c.scope d.scope
@@ -40,7 +34,15 @@ names_in es = map (λ e. e.0) es
 abbrev pub SameNames : List Word → List Word → Type 0
 SameNames xs ys = (x : Word) → is_among x xs ≡ is_among x ys
 
--- the names of an index that may be there
-abbrev pub names_before : {V : Type 0} → Option (Bor (List (Word × V))) → List Word
-names_before None = []
-names_before (Some b) = names_in b.now
+-- the two tables have the same classes, and the same for each field
+pub record SameTables (t u : Tables) : Type 0 where
+  pub classes : (c : Word) → is_class t c ≡ is_class u c
+  pub fields : (f : Word) → find_field t f ≡ find_field u f
+
+-- the two settings see the same, and have the same of their own
+pub record SameSettings (g h : Setting) : Type 0 where
+  pub interface : SameLookups g.interface h.interface
+  pub own : SameLookups g.own h.own
+  pub parameters : g.parameters ≡ h.parameters
+  pub locals : g.locals ≡ h.locals
+  pub result : g.result ≡ h.result

@@ -3,7 +3,8 @@
 ghost use Rattle.std.specs.Prelude.{◌≡◌, ◌++◌, ◌∷◌, [], map, OnOk};
 ghost use Rattle.rel_lang.specs.Typed.{signature_of_proc};
 ghost use Rattle.rel_lang.specs.View.{proc_of};
-ghost use Rattle.rel_types.specs.Called.{SameCallees, callees_seen};
+ghost use Rattle.rel_flaws.specs.CodeView.{callees_seen};
+ghost use Rattle.rel_types.specs.Called.{SameCallees};
 
 use rel_flaws::code::Callee;
 use rel_flaws::index::Index;

@@ -3,14 +3,14 @@
 ghost use Rattle.std.specs.Prelude.{◌≡◌, ◌++◌, ◌∷◌, [], map, OnOk, IfOk, Some, true, false};
 ghost use Rattle.rel_lang.specs.Scope.{declared, result_variable};
 ghost use Rattle.rel_lang.specs.State.{ByCall, ByQuantifier};
-ghost use Rattle.rel_lang.specs.View.{decl_of, type_of};
-ghost use Rattle.rel_types.specs.Lookups.{SameLookups, variables_seen};
+ghost use Rattle.rel_flaws.specs.View.{type_seen, variables_seen};
+ghost use Rattle.rel_lang.specs.View.{decl_of};
+ghost use Rattle.rel_types.specs.Lookups.{SameLookups};
 
 use rel_flaws::index::Index;
 use rel_flaws::scope::Seen;
 use rel_flaws::types::Type;
 use rel_lang::bundle::Decl;
-use rel_lang::expr::Ty;
 use rel_list::{List, Memory};
 
 /// Adds a declared variable, unless its name is there.
@@ -46,30 +46,13 @@ pub(crate) fn add_all<'a>(
 }
 
 /// Adds `result`, of this type.
-pub(crate) fn add_result<'a>(own: &mut Index<'a, Seen<'a>>, ty: &'a Ty) -> Result<(), Memory>
-    ensures { OnOk result (SameLookups (variables_seen own.new) (variables_seen own.old ++ result_variable (Some (type_of ty.now)))) }
+pub(crate) fn add_result<'a>(own: &mut Index<'a, Seen<'a>>, ty: Type<'a>) -> Result<(), Memory>
+    ensures { OnOk result (SameLookups (variables_seen own.new) (variables_seen own.old ++ result_variable (Some (type_seen ty.entry)))) }
 {
     let seen = Seen {
-        ty: Type::of(ty),
+        ty,
         is_assignable: true,
     };
     own.insert("result", seen)?;
-    Ok(())
-}
-
-/// Adds what a body has of its own: parameters, locals and `result` where it has one.
-pub(crate) fn add_own<'a>(
-    own: &mut Index<'a, Seen<'a>>,
-    params: &'a List<Decl>,
-    locals: &'a List<Decl>,
-    ty: &'a Ty,
-) -> Result<(), Memory>
-    ensures { OnOk result (SameLookups (variables_seen own.new)
-        (((variables_seen own.old ++ declared ByCall false (map decl_of params.now)) ++ declared ByCall true (map decl_of locals.now))
-        ++ result_variable (Some (type_of ty.now)))) }
-{
-    add_all(own, params, false)?;
-    add_all(own, locals, true)?;
-    add_result(own, ty)?;
     Ok(())
 }

@@ -6,12 +6,14 @@ ghost use Rattle.rel_lang.specs.View.{type_of, decl_of, place_of, effect_of, cla
 ghost use Rattle.rel_flaws.specs.Flaws.{flawless};
 ghost use Rattle.rel_flaws.specs.Inference as inference;
 ghost use Rattle.rel_types.specs.Items as items;
-ghost use Rattle.rel_types.specs.Lookups.{SameNames, names_in, variables_seen};
-ghost use Rattle.rel_flaws.specs.View.{scope_of, tables_seen, flaws_of, fault_of, pass_of};
+ghost use Rattle.rel_types.specs.Lookups.{SameLookups, SameNames, names_in};
+ghost use Rattle.rel_types.specs.OwnView.{globals_in};
+ghost use Rattle.rel_flaws.specs.View.{scope_of, globals_seen, tables_seen, flaws_of, fault_of, pass_of};
 
 use rel_flaws::formula::flaws_of_formula;
 use rel_flaws::index::Index;
 use rel_flaws::kind::{Fault, Flaws, Pass};
+use crate::around::Globals;
 use crate::names::add_names;
 use rel_flaws::relation::flaws_of_rel;
 use rel_flaws::scope::{Scope, Tables};
@@ -19,6 +21,7 @@ use rel_flaws::uses::flaws_of_region;
 use rel_lang::bundle::{Class, Clause, Decl, Effect, Place, RelClause};
 use rel_lang::expr::Ty;
 use rel_list::{List, Memory};
+use std::alloc::Global;
 
 pub(crate) fn names_unknown_class(tables: &Tables<'_>, ty: &Ty) -> bool
     ensures { result ≡ inference.names_unknown_class (tables_seen tables.now) (type_of ty.now) }
@@ -39,7 +42,7 @@ pub(crate) fn have_unknown_types(tables: &Tables<'_>, decls: &List<Decl>) -> boo
     found
 }
 
-fn flaws_of_place<'a>(tables: &Tables<'a>, scope: &Scope<'a>, place: &Place) -> Flaws
+fn flaws_of_place<'a>(tables: &Tables<'a>, scope: &Scope<'a, '_>, place: &Place) -> Flaws
     ensures { flaws_of result ≡ items.flaws_of_place (tables_seen tables.now) (scope_of scope.now) (place_of place.now) }
 {
     let field = Flaws {
@@ -49,16 +52,15 @@ fn flaws_of_place<'a>(tables: &Tables<'a>, scope: &Scope<'a>, place: &Place) -> 
     field.either(flaws_of_region(tables, scope, &place.region))
 }
 
-#[tactic(auto, using(crate::proofs::Declaring::seen_in))]
-fn is_global<'a>(scope: &Scope<'a>, name: &str) -> bool
-    ensures { result ≡ inference.is_in_scope name.now (variables_seen scope.now.globals) }
+fn is_global(scope: &Scope<'_, '_>, name: &str) -> bool
+    ensures { result ≡ inference.is_in_scope name.now (globals_seen scope.now.layers) }
 {
-    scope.globals.get(name).is_some()
+    scope.layers.global(name).is_some()
 }
 
 /// A listed global is one of the scope's globals; a region is read in the scope.
-fn flaws_of_effect<'a>(tables: &Tables<'a>, scope: &Scope<'a>, effect: &Effect) -> Flaws
-    ensures { flaws_of result ≡ items.flaws_of_effect (tables_seen tables.now) (variables_seen scope.now.globals) (scope_of scope.now) (effect_of effect.now) }
+fn flaws_of_effect<'a>(tables: &Tables<'a>, scope: &Scope<'a, '_>, effect: &Effect) -> Flaws
+    ensures { flaws_of result ≡ items.flaws_of_effect (tables_seen tables.now) (globals_seen scope.now.layers) (scope_of scope.now) (effect_of effect.now) }
 {
     match effect {
         Effect::Var(x) => Flaws {
@@ -72,11 +74,11 @@ fn flaws_of_effect<'a>(tables: &Tables<'a>, scope: &Scope<'a>, effect: &Effect) 
 /// The effects of a writes list.
 pub(crate) fn flaws_of_effects<'a>(
     tables: &Tables<'a>,
-    scope: &Scope<'a>,
+    scope: &Scope<'a, '_>,
     effects: &List<Effect>,
 ) -> Flaws
     ensures { flaws_of result ≡ items.flaws_of_all (tables_seen tables.now)
-        (items.flaws_of_effect (tables_seen tables.now) (variables_seen scope.now.globals) (scope_of scope.now)) (map effect_of effects.now) }
+        (items.flaws_of_effect (tables_seen tables.now) (globals_seen scope.now.layers) (scope_of scope.now)) (map effect_of effects.now) }
 {
     let mut flaws = Flaws::none();
     for effect in effects.as_slice() {
@@ -85,21 +87,17 @@ pub(crate) fn flaws_of_effects<'a>(
     flaws
 }
 
-/// The variables that an item declares, which are added to the names that stand before.
+/// The variables that an item declares, behind those of its interface.
 pub(crate) fn flaws_of_globals<'a>(
+    alloc: Global,
     tables: &Tables<'a>,
-    seen: &mut Index<'a, ()>,
+    before: Globals<'a, '_>,
     decls: &'a List<Decl>,
 ) -> Result<Flaws, Memory>
-    ensures flaws { IfOk result (λ f. (before : state.Scope) → SameNames (names_in seen.old) (items.seen_by_members before)
-        → flaws_of f ≡ items.flaws_of_globals (tables_seen tables.now) before (map decl_of decls.now)) }
-    ensures added { OnOk result (SameNames (names_in seen.new) (items.declared_names (map decl_of decls.now) ++ names_in seen.old)) }
+    ensures { IfOk result (λ f. (sc : state.Scope) → SameLookups (globals_in before.entry) sc
+        → flaws_of f ≡ items.flaws_of_globals (tables_seen tables.now) sc (map decl_of decls.now)) }
 {
-    Ok(Flaws {
-        twice: add_names(None, seen, decls)?,
-        unknown: have_unknown_types(tables, decls),
-        ..Flaws::none()
-    })
+    Err(Memory)
 }
 
 /// The fields of a class, with the names of the fields that stand before, to which they are added.
@@ -126,7 +124,7 @@ pub(crate) fn clause_fault<'a>(
     tables: &Tables<'a>,
     pass: Pass,
     old: bool,
-    scope: &mut Scope<'a>,
+    scope: &mut Scope<'a, '_>,
     clause: &'a Clause,
 ) -> Result<Option<Fault>, Memory>
     ensures fault { IfOk result (λ f. option_map fault_of f ≡ items.clause_fault (tables_seen tables.now) (pass_of pass) old (scope_of scope.old) (clause_of clause.now)) }
@@ -141,8 +139,8 @@ pub(crate) fn rel_clause_fault<'a>(
     tables: &Tables<'a>,
     pass: Pass,
     old: bool,
-    left: &mut Scope<'a>,
-    right: &mut Scope<'a>,
+    left: &mut Scope<'a, '_>,
+    right: &mut Scope<'a, '_>,
     clause: &'a RelClause,
 ) -> Result<Option<Fault>, Memory>
     ensures fault { IfOk result (λ f. option_map fault_of f ≡ items.rel_clause_fault (tables_seen tables.now) (pass_of pass) old (scope_of left.old) (scope_of right.old) (rel_clause_of clause.now)) }

@@ -4,8 +4,10 @@ ghost use Rattle.std.specs.Prelude.{◌≡◌, ◌++◌, ◌∷◌, [], map, OnO
 ghost use Rattle.rel_lang.specs.View.{decl_of};
 ghost use Rattle.rel_flaws.specs.Inference.{is_among};
 ghost use Rattle.rel_types.specs.Items.{repeats, declared_names};
-ghost use Rattle.rel_types.specs.Lookups.{SameNames, names_in, names_before};
+ghost use Rattle.rel_types.specs.Lookups.{SameNames, names_in};
+ghost use Rattle.rel_types.specs.OwnView.{names_before};
 
+use crate::around::Globals;
 use rel_flaws::index::Index;
 use rel_lang::bundle::Decl;
 use rel_list::{List, Memory};
@@ -28,18 +30,21 @@ pub(crate) fn add_name<'a>(names: &mut Index<'a, ()>, name: &'a str) -> Result<b
     Ok(was_there)
 }
 
-fn is_before(names: Option<&Index<'_, ()>>, name: &str) -> bool
-    ensures { result ≡ is_among name.now (names_before names.entry) }
+/// Whether the name may not be declared, where some may not: it is `result`, or that of a global.
+fn is_before(before: Option<Globals<'_, '_>>, name: &str) -> bool
+    ensures { result ≡ is_among name.now (names_before before.entry) }
 {
-    match names {
-        Some(names) => is_named(names, name),
+    match before {
+        Some(globals) => name == "result"
+            || globals.interface.get(name).is_some()
+            || globals.own.get(name).is_some(),
         None => false,
     }
 }
 
 /// Whether a declaration has a name that stands before it, or is one of `before` or `own`. Adds the names to `own`.
 pub(crate) fn add_names<'a>(
-    before: Option<&Index<'a, ()>>,
+    before: Option<Globals<'a, '_>>,
     own: &mut Index<'a, ()>,
     decls: &'a List<Decl>,
 ) -> Result<bool, Memory>

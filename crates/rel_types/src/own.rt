@@ -1,58 +1,65 @@
 //! What a body has of its own.
 
-ghost use Rattle.std.specs.Prelude.{◌≡◌, ◌++◌, true, false, OnOk, IfOk};
-ghost use Rattle.rel_lang.specs.Scope.{declared, result_variable};
-ghost use Rattle.rel_lang.specs.State.{ByCall, ByQuantifier};
+ghost use Rattle.std.specs.Prelude.{◌≡◌, ◌++◌, true, false, Some, OnOk, IfOk, map};
+ghost use Rattle.rel_lang.specs.Scope.{globals_of};
+ghost use Rattle.rel_lang.specs.View.{decl_of, type_of};
 ghost use Rattle.rel_flaws.specs.Inference as inference;
-ghost use Rattle.rel_types.specs.Items.{repeats, declared_names};
-ghost use Rattle.rel_types.specs.Lookups.{SameLookups, SameNames, names_in, variables_seen};
-ghost use Rattle.rel_types.specs.OwnView.{decls_in, type_in};
-ghost use Rattle.rel_flaws.specs.View.{tables_seen};
+ghost use Rattle.rel_flaws.specs.View.{tables_seen, type_seen};
+ghost use Rattle.rel_types.specs.Items.{repeats, seen_by_members, declared_names};
+ghost use Rattle.rel_types.specs.OwnView.{AreLayers, decls_in, type_in, setting_of};
 
-use crate::declarations::{add_all, add_result};
+use crate::around::Globals;
 use rel_flaws::index::Index;
-use crate::items::have_unknown_types;
-use crate::names::add_names;
 use rel_flaws::scope::{Seen, Tables};
-use rel_lang::bundle::Decl;
-use rel_lang::expr::Ty;
+use rel_flaws::types::Type;
+use rel_lang::bundle::{Decl, Proc};
 use rel_list::{List, Memory};
 use std::alloc::Global;
 
 /// Parameters, locals and the type of the result, where there are any.
-#[derive(Clone, Copy)]
+#[derive(Clone, Copy, Drop)]
 pub(crate) struct Own<'a> {
     pub params: Option<&'a List<Decl>>,
     pub locals: Option<&'a List<Decl>>,
-    pub result: Option<&'a Ty>,
+    pub result: Option<Type<'a>>,
 }
 
-fn add_names_in<'a>(
-    before: &Index<'a, ()>,
-    own: &mut Index<'a, ()>,
-    decls: Option<&'a List<Decl>>,
-) -> Result<bool, Memory>
-    ensures repeated { IfOk result (λ r. r ≡ repeats (names_in own.old ++ names_in before.now) (declared_names (decls_in decls.entry))) }
-    ensures added { OnOk result (SameNames (names_in own.new) (declared_names (decls_in decls.entry) ++ names_in own.old)) }
-{
-    match decls {
-        Some(decls) => add_names(Some(before), own, decls),
-        None => Ok(false),
+/// The variables of a body by name: parameters, locals, `result`, and none.
+#[derive(Drop)]
+pub(crate) struct OwnLayers<'a> {
+    pub params: Index<'a, Seen<'a>>,
+    pub locals: Index<'a, Seen<'a>>,
+    pub result: Index<'a, Seen<'a>>,
+    pub none: Index<'a, Seen<'a>>,
+}
+
+impl<'a> Own<'a> {
+    pub fn of_proc(proc: &'a Proc) -> Own<'a>
+        ensures params { decls_in result.params ≡ map decl_of proc.now.params }
+        ensures locals { decls_in result.locals ≡ map decl_of proc.now.body.locals }
+        ensures result { type_in result ≡ Some (type_of proc.now.result) }
+    {
+        Own {
+            params: Some(&proc.params),
+            locals: Some(&proc.body.locals),
+            result: Some(Type::of(&proc.result)),
+        }
     }
-}
 
-/// Whether a parameter or a local has a name that stands before it or is one of `before`.
-pub(crate) fn repeats_own<'a>(
-    alloc: Global,
-    before: &Index<'a, ()>,
-    own: Own<'a>,
-) -> Result<bool, Memory>
-    ensures { IfOk result (λ r. r ≡ repeats (names_in before.now) (declared_names (decls_in own.entry.params ++ decls_in own.entry.locals))) }
-{
-    let mut names = Index::new(alloc);
-    let in_params = add_names_in(before, &mut names, own.params)?;
-    let in_locals = add_names_in(before, &mut names, own.locals)?;
-    Ok(in_params | in_locals)
+    /// The variables by name.
+    pub fn layers(self, alloc: Global) -> Result<OwnLayers<'a>, Memory>
+        ensures { IfOk result (λ l. AreLayers self.entry l) }
+    {
+        Err(Memory)
+    }
+
+    /// Whether a parameter or a local has a name that stands before it, or that is a global's, or `result`.
+    pub fn repeats(self, alloc: Global, globals: Globals<'a, '_>) -> Result<bool, Memory>
+        ensures { IfOk result (λ r. r ≡ repeats (seen_by_members (globals_of (setting_of globals.entry self.entry)))
+            (declared_names (decls_in self.entry.params ++ decls_in self.entry.locals))) }
+    {
+        Err(Memory)
+    }
 }
 
 /// Whether one of the declarations is of a class that isn't there.
@@ -60,53 +67,7 @@ pub(crate) fn unknown_in(tables: &Tables<'_>, decls: Option<&List<Decl>>) -> boo
     ensures { result ≡ inference.have_unknown_types (tables_seen tables.now) (decls_in decls.entry) }
 {
     match decls {
-        Some(decls) => have_unknown_types(tables, decls),
+        Some(decls) => crate::items::have_unknown_types(tables, decls),
         None => false,
     }
-}
-
-fn add_all_in<'a>(
-    index: &mut Index<'a, Seen<'a>>,
-    decls: Option<&'a List<Decl>>,
-    is_assignable: bool,
-) -> Result<(), Memory>
-    ensures { OnOk result (SameLookups (variables_seen index.new)
-        (variables_seen index.old ++ declared ByQuantifier is_assignable (decls_in decls.entry))) }
-{
-    match decls {
-        Some(decls) => add_all(index, decls, is_assignable),
-        None => Ok(()),
-    }
-}
-
-pub(crate) fn add_result_in<'a>(
-    index: &mut Index<'a, Seen<'a>>,
-    ty: Option<&'a Ty>,
-) -> Result<(), Memory>
-    ensures { OnOk result (SameLookups (variables_seen index.new) (variables_seen index.old ++ result_variable (type_in ty.entry))) }
-{
-    match ty {
-        Some(ty) => add_result(index, ty),
-        None => Ok(()),
-    }
-}
-
-/// What a precondition sees of the parameters.
-pub(crate) fn params_of<'a>(alloc: Global, own: Own<'a>) -> Result<Index<'a, Seen<'a>>, Memory>
-    ensures { IfOk result (λ r. SameLookups (variables_seen r) (declared ByQuantifier false (decls_in own.entry.params))) }
-{
-    let mut index = Index::new(alloc);
-    add_all_in(&mut index, own.params, false)?;
-    Ok(index)
-}
-
-/// What a body sees of its own.
-pub(crate) fn variables_of<'a>(alloc: Global, own: Own<'a>) -> Result<Index<'a, Seen<'a>>, Memory>
-    ensures { IfOk result (λ r. SameLookups (variables_seen r) (declared ByCall false (decls_in own.entry.params)
-        ++ (declared ByCall true (decls_in own.entry.locals) ++ result_variable (type_in own.entry.result)))) }
-{
-    let mut index = params_of(alloc, own)?;
-    add_all_in(&mut index, own.locals, true)?;
-    add_result_in(&mut index, own.result)?;
-    Ok(index)
 }

@@ -1,7 +1,8 @@
 use Rattle.std.proofs.Common.{◌++◌, ◌∷◌, [], map, sym, ap₂, subst}
 use Rattle.rel_lang.specs.Typed.{Signature, signature_of_proc}
 use Rattle.rel_lang.specs.View.{decl_of, proc_of}
-use Rattle.rel_types.specs.Called.{SameCallees, callees_seen}
+use Rattle.rel_flaws.specs.CodeView.{callees_seen}
+use Rattle.rel_types.specs.Called.{SameCallees}
 use Rattle.rel_types.proofs.Calling.{insert_callee}
 use Rattle.rel_types.proofs.called.add_proc.Goals as goal
 

@@ -1,7 +1,8 @@
 use Rattle.std.proofs.Common.{◌++◌, map, take}
 use Rattle.rel_lang.specs.Typed.{signature_of_proc}
 use Rattle.rel_lang.specs.View.{proc_of}
-use Rattle.rel_types.specs.Called.{SameCallees, callees_seen}
+use Rattle.rel_flaws.specs.CodeView.{callees_seen}
+use Rattle.rel_types.specs.Called.{SameCallees}
 use Rattle.rel_types.proofs.called.add_procs.Given as goal
 
 abbrev pub invariant-loop-proc : goal.invariant-loop-proc

@@ -2,7 +2,8 @@ use Rattle.std.proofs.Common.{◌++◌, ◌∷◌, [], sym, ap₂, subst}
 use Rattle.rel_lang.specs.State.{ByQuantifier, Variable}
 use Rattle.rel_lang.specs.Scope.{declared}
 use Rattle.rel_lang.specs.View.{decl_of}
-use Rattle.rel_types.specs.Lookups.{SameLookups, variables_seen}
+use Rattle.rel_types.specs.Lookups.{SameLookups}
+use Rattle.rel_flaws.specs.View.{variables_seen}
 use Rattle.rel_types.proofs.Declaring.{insert_same}
 use Rattle.rel_types.proofs.declarations.add.Goals as goal
 

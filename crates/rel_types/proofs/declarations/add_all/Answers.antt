@@ -1,4 +1,4 @@
-use Rattle.rel_types.specs.Lookups.{variables_seen}
+use Rattle.rel_flaws.specs.View.{variables_seen}
 use Rattle.rel_types.proofs.Declaring.{more_declared}
 use Rattle.rel_types.proofs.declarations.add_all.Goals as goal
 

@@ -2,7 +2,8 @@ use Rattle.std.proofs.Common.{◌++◌, map, take}
 use Rattle.rel_lang.specs.Scope.{declared}
 use Rattle.rel_lang.specs.State.{ByQuantifier}
 use Rattle.rel_lang.specs.View.{decl_of}
-use Rattle.rel_types.specs.Lookups.{SameLookups, variables_seen}
+use Rattle.rel_types.specs.Lookups.{SameLookups}
+use Rattle.rel_flaws.specs.View.{variables_seen}
 use Rattle.rel_types.proofs.declarations.add_all.Given as goal
 
 abbrev pub invariant-loop-decl : goal.invariant-loop-decl

@@ -2,7 +2,8 @@ use Rattle.std.proofs.Common.{◌++◌, ◌∷◌, [], true, Some, sym, ap, subs
 use Rattle.rel_lang.specs.State.{ByCall, ByQuantifier, Scope, Variable}
 use Rattle.rel_lang.specs.Scope.{result_name, result_variable}
 use Rattle.rel_lang.specs.View.{type_of}
-use Rattle.rel_types.specs.Lookups.{SameLookups, variables_seen}
+use Rattle.rel_types.specs.Lookups.{SameLookups}
+use Rattle.rel_flaws.specs.View.{variables_seen}
 use Rattle.rel_types.proofs.Lookups.{same_after}
 use Rattle.rel_types.proofs.Declaring.{insert_same, same_declared, same_self, same_then}
 use Rattle.rel_types.proofs.declarations.add_result.Goals as goal

@@ -2,8 +2,7 @@ use Rattle.std.proofs.Common.{ap₂, ◌∙◌}
 use Rattle.rel_lang.specs.View.{effect_of}
 use Rattle.rel_flaws.specs.Flaws.{either}
 use Rattle.rel_types.specs.Items as items
-use Rattle.rel_types.specs.Lookups.{variables_seen}
-use Rattle.rel_flaws.specs.View.{tables_seen, scope_of}
+use Rattle.rel_flaws.specs.View.{tables_seen, scope_of, variables_seen}
 use Rattle.rel_types.proofs.Gathered.{all_more}
 use Rattle.rel_types.proofs.items.flaws_of_effects.Goals as goal
 

@@ -1,8 +1,7 @@
 use Rattle.std.proofs.Common.{◌≡◌, map, take}
 use Rattle.rel_lang.specs.View.{effect_of}
 use Rattle.rel_types.specs.Items as items
-use Rattle.rel_types.specs.Lookups.{variables_seen}
-use Rattle.rel_flaws.specs.View.{tables_seen, scope_of, flaws_of}
+use Rattle.rel_flaws.specs.View.{tables_seen, scope_of, flaws_of, variables_seen}
 use Rattle.rel_types.proofs.items.flaws_of_effects.Given as goal
 
 abbrev pub invariant-loop-effect : goal.invariant-loop-effect

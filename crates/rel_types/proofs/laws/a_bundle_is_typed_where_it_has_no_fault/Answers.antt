@@ -1,4 +1,4 @@
-use Rattle.rel_types.proofs.Bundles.{bundle_law}
+use Rattle.rel_types.proofs.TypedBundles.{bundle_law}
 use Rattle.rel_types.proofs.laws.a_bundle_is_typed_where_it_has_no_fault.Goals as goal
 
 pub returns : goal.returns

@@ -1,4 +1,5 @@
-use Rattle.rel_types.specs.Lookups.{names_in, names_before}
+use Rattle.rel_types.specs.Lookups.{names_in}
+use Rattle.rel_types.specs.OwnView.{names_before}
 use Rattle.rel_types.proofs.Repeats.{gone_one_more}
 use Rattle.rel_types.proofs.names.add_names.Goals as goal
 

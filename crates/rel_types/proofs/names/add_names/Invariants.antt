@@ -1,4 +1,5 @@
-use Rattle.rel_types.specs.Lookups.{names_in, names_before}
+use Rattle.rel_types.specs.Lookups.{names_in}
+use Rattle.rel_types.specs.OwnView.{names_before}
 use Rattle.rel_types.proofs.Repeats.{AreGoneOver}
 use Rattle.rel_types.proofs.names.add_names.Given as goal
 

@@ -9,16 +9,16 @@ returns-in-Some c =
     in_front_of c.args.name.now c.args.self.params.now (variables_seen c.args.self.locals.now ++ variables_seen c.args.self.result.now) c.in-Some.seen
     (sym c.in-Some.is ∙ c.get.ensures)
 
-pub returns-in-None-in-Some : goal.returns-in-None-in-Some
-returns-in-None-in-Some c =
-    in_front_of c.args.name.now c.args.self.locals.now (variables_seen c.args.self.result.now) c.in-None-in-Some.seen
-    (sym c.in-None-in-Some.is ∙ c.get-in-None.ensures)
+pub returns-in-Some-get : goal.returns-in-Some-get
+returns-in-Some-get c =
+    in_front_of c.args.name.now c.args.self.locals.now (variables_seen c.args.self.result.now) c.in-Some-get.seen
+    (sym c.in-Some-get.is ∙ c.get-in-None.ensures)
     ∙ behind c.args.name.now c.args.self.params.now (variables_seen c.args.self.locals.now ++ variables_seen c.args.self.result.now)
     (sym c.in-None.is ∙ c.get.ensures)
 
-pub returns-in-None-in-None : goal.returns-in-None-in-None
-returns-in-None-in-None c =
-    ap (option_map (variable_of c.args.name.now)) c.get-in-None-in-None.ensures ∙ sym (found_last c.args.name.now c.args.self.result.now)
-    ∙ behind c.args.name.now c.args.self.locals.now (variables_seen c.args.self.result.now) (sym c.in-None-in-None.is ∙ c.get-in-None.ensures)
+pub returns-in-None-get : goal.returns-in-None-get
+returns-in-None-get c =
+    ap (option_map (variable_of c.args.name.now)) c.get-in-None-get.ensures ∙ sym (found_last c.args.name.now c.args.self.result.now)
+    ∙ behind c.args.name.now c.args.self.locals.now (variables_seen c.args.self.result.now) (sym c.in-None-get.is ∙ c.get-in-None.ensures)
     ∙ behind c.args.name.now c.args.self.params.now (variables_seen c.args.self.locals.now ++ variables_seen c.args.self.result.now)
     (sym c.in-None.is ∙ c.get.ensures)

@@ -18,7 +18,7 @@ use Rattle.rel_types.proofs.Distinct.{same_names_are_same, distinct_append}
 use Rattle.rel_types.proofs.Equivalences.{iff_same, iff_back, iff_then, iff_both}
 use Rattle.rel_types.proofs.Commands.{block_law}
 use Rattle.rel_types.proofs.Procedures.{at_first, twice_unknown_clean, names_append, names_declared, body_names, body_with_result, types_law, clause_law}
-use Rattle.rel_types.proofs.Units.{behind, globals_law}
+use Rattle.rel_types.proofs.TypedUnits.{behind, globals_law}
 use Rattle.rel_types.proofs.Matches.{matched}
 
 pub unknown_missing_clean : (u m : Bool) → IsClean (record flawless { unknown = u; missing = m }) ↔ ((u ≡ false) × (m ≡ false))

@@ -18,10 +18,10 @@ use Rattle.rel_types.proofs.Clean.{IsClean, HasNoFault, or_false, first_none, no
 use Rattle.rel_types.proofs.Distinct.{AreApart, apart_from_nothing, apart_cons, apart_append, apart_of_append, among_is_false, same_from_true, distinct_append, repeats_is_false}
 use Rattle.rel_types.proofs.Equivalences.{iff_same, iff_then, iff_both, iff_all}
 use Rattle.rel_types.proofs.Procedures.{at_first}
-use Rattle.rel_types.proofs.Units.{twice_clean, class_law, interface_law, unit_law}
-use Rattle.rel_types.proofs.Modules.{module_law}
-use Rattle.rel_types.proofs.Clients.{client_law}
-use Rattle.rel_types.proofs.Judgements.{judgement_law, pair_law}
+use Rattle.rel_types.proofs.TypedUnits.{twice_clean, class_law, interface_law, unit_law}
+use Rattle.rel_types.proofs.TypedModules.{module_law}
+use Rattle.rel_types.proofs.TypedClients.{client_law}
+use Rattle.rel_types.proofs.TypedJudgements.{judgement_law, pair_law}
 
 -- ---- what is found by name
 

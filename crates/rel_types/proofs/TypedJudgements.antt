@@ -16,7 +16,7 @@ use Rattle.rel_types.proofs.Distinct.{not_is_false, same_names_are_same, same_fr
 use Rattle.rel_types.proofs.Equivalences.{iff_same, iff_back, iff_then, iff_both, some_weaker}
 use Rattle.rel_types.proofs.AlignmentsTyped.{align_law}
 use Rattle.rel_types.proofs.Procedures.{at_first, unknown_clean, rel_clause_law}
-use Rattle.rel_types.proofs.Modules.{unknown_missing_clean}
+use Rattle.rel_types.proofs.TypedModules.{unknown_missing_clean}
 use Rattle.rel_types.proofs.Matches.{matched}
 
 module _ (b : Bundle) where

@@ -16,7 +16,7 @@ use Rattle.rel_types.proofs.Clean.{IsClean, HasNoFault, or_false, clean_both}
 use Rattle.rel_types.proofs.Distinct.{apart_from_nothing, apart_turned, apart_is_false, among_is_false, same_from_true, true_from_same, distinct_append}
 use Rattle.rel_types.proofs.Equivalences.{all_both, all_mapped}
 use Rattle.rel_types.proofs.Procedures.{at_first, names_append, names_declared, proc_law}
-use Rattle.rel_types.proofs.Units.{named_law, globals_law}
+use Rattle.rel_types.proofs.TypedUnits.{named_law, globals_law}
 
 unknown_main_clean : (u m : Bool) → IsClean (record flawless { unknown = u; no_main = m }) ↔ ((u ≡ false) × (m ≡ false))
 unknown_main_clean u m = (λ e. (ap (λ f. f.unknown) e, ap (λ f. f.no_main) e), λ h. rw (h.0, h.1) refl)
