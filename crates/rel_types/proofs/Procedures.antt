@@ -135,8 +135,8 @@ module _ (tables : Tables) where
     pub result : IsDeclaredType tables t
     pub writes : AreTypedWrites tables g es
 
-  pub head_law : (pass : Pass) (g : Setting) (writes : List Effect) (result : Ty) → IsTypedHead g writes result ↔ IsClean (flaws_of_head tables pass g writes result)
-  head_law pass g writes result =
+  pub head_law : (g : Setting) (writes : List Effect) (result : Ty) → IsTypedHead g writes result ↔ IsClean (flaws_of_head tables g writes result)
+  head_law g writes result =
       let both = clean_both (record flawless {
         twice = repeats (seen_by_members (globals_of g)) (declared_names (g.parameters ++ g.locals));
         unknown = have_unknown_types tables (g.parameters ++ g.locals) || names_unknown_class tables result;
@@ -165,11 +165,11 @@ module _ (tables : Tables) where
   proc_law interface own callees more q premise =
       let g = setting_of_proc interface own q in
       let names = body_with_result g q.result refl premise in
-      let place = at_first q.at (either more (flaws_of_head tables ForTwice g q.spec.writes q.result))
+      let place = at_first q.at (either more (flaws_of_head tables g q.spec.writes q.result))
       (λ pass. first_of (clauses_fault tables pass g q.spec) (block_fault tables pass (record { scope = body_scope g; callees = callees; may_call = true }) q.body.commands)) in
       let rest = no_fault_in_both (λ pass. clauses_fault tables pass g q.spec) (λ pass. block_fault tables pass (record { scope = body_scope g; callees = callees; may_call = true }) q.body.commands) in
-      let flaws = clean_both more (flaws_of_head tables ForTwice g q.spec.writes q.result) in
-      let head = head_law ForTwice g q.spec.writes q.result in
+      let flaws = clean_both more (flaws_of_head tables g q.spec.writes q.result) in
+      let head = head_law g q.spec.writes q.result in
       let clauses = clauses_law g q.spec in
       let commands = block_law tables (record { scope = body_scope g; callees = callees; may_call = true }) q.body.commands in (
         λ h.

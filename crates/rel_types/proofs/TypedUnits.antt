@@ -70,10 +70,10 @@ module _ (tables : Tables) where
       let g = signature_setting i q in
       let premise : AreDistinct (result_name ∷ names_of (globals_of g)) = subst (λ sc. AreDistinct (result_name ∷ names_of sc)) (sym (append-nil (interface_globals i))) distinct in
       let names = body_with_result g q.result refl premise in
-      let place = at_first q.at (either (twice_where (is_among q.name seen)) (flaws_of_head tables ForTwice g q.spec.writes q.result)) (λ pass. clauses_fault tables pass g q.spec) in
-      let flaws = clean_both (twice_where (is_among q.name seen)) (flaws_of_head tables ForTwice g q.spec.writes q.result) in
+      let place = at_first q.at (either (twice_where (is_among q.name seen)) (flaws_of_head tables g q.spec.writes q.result)) (λ pass. clauses_fault tables pass g q.spec) in
+      let flaws = clean_both (twice_where (is_among q.name seen)) (flaws_of_head tables g q.spec.writes q.result) in
       let twice = twice_clean (is_among q.name seen) in
-      let head = head_law tables ForTwice g q.spec.writes q.result in
+      let head = head_law tables g q.spec.writes q.result in
       let clauses = clauses_law tables g q.spec in (
         λ h.
             let p = place.0 h in

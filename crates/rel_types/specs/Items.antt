@@ -109,6 +109,14 @@ module _ (tables : Tables) where
     unknown = have_unknown_types tables ds;
   }
 
+  -- the variables and the writes list of a procedure or a method
+  abbrev pub flaws_of_head : Setting → List Effect → Ty → Flaws
+  flaws_of_head g writes result =
+      either (record flawless {
+        twice = repeats (seen_by_members (globals_of g)) (declared_names (g.parameters ++ g.locals));
+        unknown = have_unknown_types tables (g.parameters ++ g.locals) || names_unknown_class tables result;
+      }) (flaws_of_all (flaws_of_effect (globals_of g) (pre_scope g)) writes)
+
   module _ (pass : Pass) where
     -- ---- clauses
 
@@ -122,14 +130,6 @@ module _ (tables : Tables) where
     clauses_fault g s = first_of (clause_fault false (pre_scope g) s.needs) (clause_fault true (post_scope g) s.gives)
 
     -- ---- procedures and methods
-
-    -- the variables and the writes list of a procedure or a method
-    abbrev pub flaws_of_head : Setting → List Effect → Ty → Flaws
-    flaws_of_head g writes result =
-        either (record flawless {
-          twice = repeats (seen_by_members (globals_of g)) (declared_names (g.parameters ++ g.locals));
-          unknown = have_unknown_types tables (g.parameters ++ g.locals) || names_unknown_class tables result;
-        }) (flaws_of_all (flaws_of_effect (globals_of g) (pre_scope g)) writes)
 
     abbrev pub proc_fault : Setting → List Signature → Flaws → Proc → Option Fault
     proc_fault g callees more q =

@@ -1,5 +1,5 @@
 -- What is known of the items that others name.
-use Rattle.std.specs.Prelude.{◌≡◌, ⊥, Unit, ℕ, Bool, List, map, Option, Some, None, option_map}
+use Rattle.std.specs.Prelude.{◌≡◌, ℕ, List, map, Option, Some, None, option_map}
 use denote.Ref.{Bor}
 use Rattle.rel_lang.specs.Syntax.{Word, Body, Proc, Sig, Interface, Module, UnitItem, Judgement, Bundle}
 use Rattle.rel_lang.specs.State.{tables_of, class_number}

@@ -10,11 +10,11 @@ ghost use Rattle.rel_types.specs.Lookups.{SameLookups, SameNames, names_in};
 ghost use Rattle.rel_types.specs.OwnView.{globals_in};
 ghost use Rattle.rel_flaws.specs.View.{scope_of, globals_seen, tables_seen, flaws_of, fault_of, pass_of};
 
+use crate::around::Globals;
+use crate::names::add_names;
 use rel_flaws::formula::flaws_of_formula;
 use rel_flaws::index::Index;
 use rel_flaws::kind::{Fault, Flaws, Pass};
-use crate::around::Globals;
-use crate::names::add_names;
 use rel_flaws::relation::flaws_of_rel;
 use rel_flaws::scope::{Scope, Tables};
 use rel_flaws::uses::flaws_of_region;

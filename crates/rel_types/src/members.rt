@@ -26,7 +26,7 @@ pub(crate) fn flaws_of_head<'a>(
     writes: &List<Effect>,
     ty: &'a Ty,
 ) -> Result<Flaws, Memory>
-    requires { AreLayers own.entry layers.now }
+    requires { AreLayers own layers.now }
     ensures { IfOk result (λ f. flaws_of f ≡ items.flaws_of_head (tables_seen tables.now) (setting_of globals.entry own.entry) (map effect_of writes.now) (type_of ty.now)) }
 {
     Err(Memory)

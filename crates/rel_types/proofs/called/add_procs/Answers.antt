@@ -1,6 +1,6 @@
 use Rattle.rel_lang.specs.Typed.{signature_of_proc}
 use Rattle.rel_lang.specs.View.{proc_of}
-use Rattle.rel_types.specs.Called.{callees_seen}
+use Rattle.rel_flaws.specs.CodeView.{callees_seen}
 use Rattle.rel_types.proofs.Calling.{more_callees}
 use Rattle.rel_types.proofs.called.add_procs.Goals as goal
 
