@@ -4,3 +4,5 @@ pub mod Lookups
 pub mod Called
 pub mod OwnView
 pub mod Known
+pub mod Numbers
+pub mod Told
