@@ -22,3 +22,5 @@ pub mod Settings
 pub mod Gathered
 pub mod Owned
 pub mod Calling
+pub mod SameTables
+pub mod SameItems
