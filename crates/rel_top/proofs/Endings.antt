@@ -11,10 +11,12 @@ use Rattle.rel_top.specs.declared.check.Answer.{Answer}
 use Rattle.rel_top.specs.declared.status.Status.{Status}
 use Rattle.rel_top.specs.declared.status.Status.TheVariants.{Yes, FileFault, OutputFault, Memory}
 use Rattle.rel_top.specs.Ending.{Words, Reply, usage, unread, answer, IsUnread, HasReply, status_of, lines_of, Output, output, IsPrinted, IsCutOff, IsSilent, EndsWith, Ends, AreTold, IsDecided}
+use Rattle.rel_flaws.specs.Flaws.{Fault}
+use Rattle.rel_types.specs.Items.{first_fault}
 use Rattle.rel_linking.specs.Form.{Parts, IsStraight}
 use Rattle.rel_top.specs.Headline.{WhereTold, IsYes}
-use Rattle.rel_top.specs.Judged.{IsOutcomeAnswer, IsProofAnswer, IsJudgedAnswer, IsBundleAnswer, IsTextAnswer, IsCheckAnswer, IsPrintAnswer, IsShowAnswer, IsReply, IsWordsAnswer, IsPrintedAs, answer_of}
-use Rattle.rel_top.specs.Verdict.{Refusal, IsRefused, IsRead, IsBuilt, Outcome, no_proof, bad_step, open_nodes, accepted, Verdict, refused, not_built, judged, printed, Command, check, show, words_of, outcome_status, HasVerdict}
+use Rattle.rel_top.specs.Judged.{IsOutcomeAnswer, IsProofAnswer, IsJudgedAnswer, IsTypedAnswer, IsBundleAnswer, IsTextAnswer, IsCheckAnswer, IsPrintAnswer, IsShowAnswer, IsReply, IsWordsAnswer, IsPrintedAs, answer_of}
+use Rattle.rel_top.specs.Verdict.{Refusal, IsRefused, IsRead, IsBuilt, Outcome, no_proof, bad_step, open_nodes, accepted, Verdict, refused, ill_typed, not_built, judged, printed, Command, check, show, words_of, outcome_status, HasVerdict}
 use Rattle.rel_decls.proofs.OneBundle.{one_bundle}
 use Rattle.rel_top.proofs.OneVerdict.{one_verdict}
 
@@ -56,17 +58,25 @@ module _ (told : List ℕ → Told) (Failed : List ℕ → Type 0) (words : Word
     of_refusal r h is = record { reply = answer (refused r); has = (check bundle proof, e, (text, is_told, h)); is = is; true = λ y. absurd cc }
 
     module _ (b : Bundle) (read : IsRead text b) where
-      of_other : ((k : Parts) → ¬ (IsStraight b k)) → a ≡ answer_of (answer not_built) → IsReply told Failed words a
-      of_other other is = record {
-        reply = answer not_built;
-        has = (check bundle proof, e, (text, is_told, record { bundle = b; read = read; other = other }));
+      of_fault : (f : Fault) → first_fault b ≡ Some f → a ≡ answer_of (answer (ill_typed f)) → IsReply told Failed words a
+      of_fault f fault is = record {
+        reply = answer (ill_typed f);
+        has = (check bundle proof, e, (text, is_told, record { bundle = b; read = read; fault = fault }));
         is = is;
         true = λ y. absurd cc;
       }
 
-      module _ (k : Parts) (straight : IsStraight b k) where
+      of_other : first_fault b ≡ None → ((k : Parts) → ¬ (IsStraight b k)) → a ≡ answer_of (answer not_built) → IsReply told Failed words a
+      of_other faultless other is = record {
+        reply = answer not_built;
+        has = (check bundle proof, e, (text, is_told, record { bundle = b; read = read; faultless = faultless; other = other }));
+        is = is;
+        true = λ y. absurd cc;
+      }
+
+      module _ (faultless : first_fault b ≡ None) (k : Parts) (straight : IsStraight b k) where
         built : IsBuilt text k
-        built = record { bundle = b; read = read; straight = straight }
+        built = record { bundle = b; read = read; faultless = faultless; straight = straight }
 
         of_content : (content : List ℕ) → IsToldAs (told proof) content → IsOutcomeAnswer b k content a → IsReply told Failed words a
         of_content content content_told h = record {
@@ -83,10 +93,15 @@ module _ (told : List ℕ → Told) (Failed : List ℕ → Type 0) (words : Word
         of_judged (inl h) = of_unread proof (check bundle proof, e, (h.0, inr (refl, (k, (text, is_told, built))))) h.1
         of_judged (inr h) = of_content h.0 h.1 (h.2 k straight)
 
+      of_typed : first_fault b ≡ None → IsTypedAnswer b told Failed proof a → IsReply told Failed words a
+      unfolding IsTypedAnswer
+      of_typed faultless (inl h) = of_other faultless h.0 h.1
+      of_typed faultless (inr h) = of_judged faultless h.0 h.1 h.2
+
       of_bundle : IsBundleAnswer b told Failed proof a → IsReply told Failed words a
       unfolding IsBundleAnswer
-      of_bundle (inl h) = of_other h.0 h.1
-      of_bundle (inr h) = of_judged h.0 h.1 h.2
+      of_bundle (inl h) = of_fault h.0 h.1 h.2
+      of_bundle (inr h) = of_typed h.0 h.1
 
     of_text : IsTextAnswer text told Failed proof a → IsReply told Failed words a
     unfolding IsTextAnswer
@@ -204,6 +219,7 @@ ends_as : (r : Reply) (out : Output) → IsPrinted out (lines_of r) → EndsWith
 ends_as usage out p = (refl, p)
 ends_as (unread name) out p = (refl, p)
 ends_as (answer (refused r)) out p = (refl, p)
+ends_as (answer (ill_typed f)) out p = (refl, p)
 ends_as (answer not_built) out p = (refl, p)
 ends_as (answer (printed b)) out p = (refl, p)
 ends_as (answer (judged k no_proof)) out p = (refl, p)

@@ -2,6 +2,8 @@
 use Rattle.std.proofs.Common.{◌≡◌, ◌≢◌, ℕ, List, [], ◌∷◌, Option, Some, None, refl, sym, ap, subst, ◌∙◌, arith}
 use Rattle.rel_io.specs.Told.{Told, untold, absent, bytes, IsToldAs}
 use Rattle.rel_lang.specs.Syntax.{Bundle}
+use Rattle.rel_flaws.specs.Flaws.{Fault}
+use Rattle.rel_types.specs.Items.{first_fault}
 use Rattle.rel_derive.specs.declared.step.Step.{Step}
 use Rattle.rel_derive.specs.declared.checker.Verdict as D
 use Rattle.rel_derive.specs.declared.checker.Verdict.TheVariants.{Accepted, BadStep, OpenNodes}
@@ -14,7 +16,7 @@ use Rattle.rel_decls.proofs.OneFault.{one_fault, unfit}
 use Rattle.rel_decls.proofs.OneBundle.{one_bundle}
 use Rattle.rel_top.specs.Ending.{AreTold}
 use Rattle.rel_top.specs.ProofFile.{proof_of}
-use Rattle.rel_top.specs.Verdict.{Refusal, too_large, bad_text, IsRefused, IsRead, IsBuilt, IsNotBuilt, Outcome, no_proof, bad_step, open_nodes, accepted, HasOutcome, Verdict, refused, not_built, judged, printed, IsJudgedAs, IsShownAs, Command, check, show, HasVerdict}
+use Rattle.rel_top.specs.Verdict.{Refusal, too_large, bad_text, IsRefused, IsRead, IsIllTyped, IsBuilt, IsNotBuilt, Outcome, no_proof, bad_step, open_nodes, accepted, HasOutcome, Verdict, refused, ill_typed, not_built, judged, printed, IsJudgedAs, IsShownAs, Command, check, show, HasVerdict}
 
 -- ---- a bundle has one list of parts at most
 
@@ -102,6 +104,14 @@ not_read text (bad_text f) b g h = unfit text f g.2 g.1 b h.stands h.fits
 not_both : (text : List ℕ) (k : Parts) → IsNotBuilt text → IsBuilt text k → ⊥
 not_both text k g h = g.other k (subst (λ b. IsStraight b k) (one_bundle text h.bundle g.bundle h.read.stands g.read.stands) h.straight)
 
+-- a bundle has one first fault at most
+one_type_fault : (text : List ℕ) (e f : Fault) → IsIllTyped text e → IsIllTyped text f → e ≡ f
+one_type_fault text e f g h =
+    some_is e f (sym g.fault ∙ ap first_fault (one_bundle text h.bundle g.bundle h.read.stands g.read.stands) ∙ h.fault)
+
+faulty : (text : List ℕ) (f : Fault) (b : Bundle) → IsIllTyped text f → IsRead text b → first_fault b ≡ None → ⊥
+faulty text f b g read none = none_is (first_fault b) f none (ap first_fault (one_bundle text g.bundle b g.read.stands read.stands) ∙ g.fault)
+
 one_parts : (text : List ℕ) (k l : Parts) → IsBuilt text k → IsBuilt text l → k ≡ l
 one_parts text k l g h = same_parts h.bundle k l (subst (λ b. IsStraight b k) (one_bundle text g.bundle h.bundle g.read.stands h.read.stands) g.straight) h.straight
 
@@ -124,7 +134,15 @@ module _ (bundle proof : Told) (told : bundle ≢ untold) (also : proof ≢ unto
   one_judged (printed b) w g h = absurd g
   one_judged (refused r) (printed b) g h = absurd h
   one_judged not_built (printed b) g h = absurd h
+  one_judged (ill_typed f) (printed b) g h = absurd h
   one_judged (judged k o) (printed b) g h = absurd h
+  one_judged (refused r) (ill_typed f) g h = let n = here (λ text. IsIllTyped text f) g.0 g.1 h in absurd (not_read g.0 r n.bundle g.2 n.read)
+  one_judged (ill_typed f) (refused s) g h = let n = here (λ text. IsIllTyped text f) h.0 h.1 g in absurd (not_read h.0 s n.bundle h.2 n.read)
+  one_judged (ill_typed e) (ill_typed f) g h = ap ill_typed (one_type_fault g.0 e f g.2 (here (λ text. IsIllTyped text f) g.0 g.1 h))
+  one_judged (ill_typed f) not_built g h = let n = here IsNotBuilt g.0 g.1 h in absurd (faulty g.0 f n.bundle g.2 n.read n.faultless)
+  one_judged (ill_typed f) (judged k o) g h = let n = here (λ text. IsBuilt text k) g.0 g.1 h.0 in absurd (faulty g.0 f n.bundle g.2 n.read n.faultless)
+  one_judged not_built (ill_typed f) g h = let n = here IsNotBuilt h.0 h.1 g in absurd (faulty h.0 f n.bundle h.2 n.read n.faultless)
+  one_judged (judged k o) (ill_typed f) g h = let n = here (λ text. IsBuilt text k) h.0 h.1 g.0 in absurd (faulty h.0 f n.bundle h.2 n.read n.faultless)
   one_judged (refused r) (refused s) g h = ap refused (one_refusal g.0 r s g.2 (here (λ text. IsRefused text s) g.0 g.1 h))
   one_judged (refused r) not_built g h = let n = here IsNotBuilt g.0 g.1 h in absurd (not_read g.0 r n.bundle g.2 n.read)
   one_judged (refused r) (judged k o) g h = let n = here (λ text. IsBuilt text k) g.0 g.1 h.0 in absurd (not_read g.0 r n.bundle g.2 n.read)
@@ -140,8 +158,11 @@ module _ (bundle proof : Told) (told : bundle ≢ untold) (also : proof ≢ unto
       λ i. judged (same i) (last i)
 
   one_shown : (v w : Verdict) → IsShownAs bundle v → IsShownAs bundle w → v ≡ w
+  one_shown (ill_typed f) w g h = absurd g
   one_shown not_built w g h = absurd g
   one_shown (judged k o) w g h = absurd g
+  one_shown (refused r) (ill_typed f) g h = absurd h
+  one_shown (printed b) (ill_typed f) g h = absurd h
   one_shown (refused r) not_built g h = absurd h
   one_shown (refused r) (judged k o) g h = absurd h
   one_shown (printed b) not_built g h = absurd h

@@ -18,6 +18,8 @@ use Rattle.rel_lang.specs.Text.{spaced, show_item, StandsFor}
 use Rattle.rel_decls.specs.Faults.{HasFault}
 use Rattle.rel_decls.specs.declared.fault.TextFault.{TextFault}
 use Rattle.rel_decls.specs.declared.fault.TextFault.TheVariants as texts
+use Rattle.rel_flaws.specs.Flaws.{Fault}
+use Rattle.rel_types.specs.Items.{first_fault}
 use Rattle.rel_logic.specs.declared.sequent.Sequent.{Sequent}
 use Rattle.rel_logic.specs.Truth.{IsValid}
 use Rattle.rel_logic.specs.View.{sequent_of}
@@ -30,11 +32,11 @@ use Rattle.rel_linking.specs.Obligation.{obligation_of}
 use Rattle.rel_linking.specs.Scope.{IsObligationOf, IsAnswer}
 use Rattle.rel_top.specs.declared.check.Answer.{Answer}
 use Rattle.rel_top.specs.Ending.{ReadFailed, unread, answer}
-use Rattle.rel_top.specs.Judged.{OfParts, IsObligation, IsFound, IsStepsAnswer, IsProofAnswer, IsJudgedAnswer, IsBundleAnswer, IsTextAnswer, IsCheckAnswer, IsPrintAnswer, IsShowAnswer, answer_of}
+use Rattle.rel_top.specs.Judged.{OfParts, IsObligation, IsFound, IsStepsAnswer, IsProofAnswer, IsJudgedAnswer, IsTypedAnswer, IsBundleAnswer, IsTextAnswer, IsCheckAnswer, IsPrintAnswer, IsShowAnswer, answer_of}
 use Rattle.rel_top.specs.ProofFile.{proof_of, json_of, steps_of, derivation_of}
-use Rattle.rel_top.specs.Report.{line, text_fault_line, proof_line, bad_step_line, open_nodes_line, item_line, yes_line}
+use Rattle.rel_top.specs.Report.{line, text_fault_line, type_fault_line, proof_line, bad_step_line, open_nodes_line, item_line, yes_line}
 use Rattle.rel_top.specs.declared.status.Status.TheVariants.{Yes, Refused}
-use Rattle.rel_top.specs.Verdict.{too_large, bad_text, Outcome, no_proof, bad_step, open_nodes, accepted, HasOutcome, refused, not_built, judged, printed, MayHold}
+use Rattle.rel_top.specs.Verdict.{too_large, bad_text, Outcome, no_proof, bad_step, open_nodes, accepted, HasOutcome, refused, ill_typed, not_built, judged, printed, MayHold}
 use Rattle.rel_top.proofs.FewSteps.{few_steps}
 use Rattle.rel_top.proofs.OneVerdict.{same_parts, outcome_of}
 
@@ -98,6 +100,9 @@ module _ {E : Type 0} (r : Result Answer E) (text : List ℕ) (one : IfOk r (λ 
 
   pub faulty_answer : (f : TextFault) → f ≢ texts.Memory → text ≡ text_fault_line f → IfOk r (λ a. (f ≢ texts.Memory) × (a ≡ answer_of (answer (refused (bad_text f)))))
   faulty_answer f some same = refusing (λ a. (f ≢ texts.Memory) × (a ≡ answer_of (answer (refused (bad_text f))))) (λ a is. (some, is ∙ ap (λ t. record { status = Refused; lines = t ∷ [] }) same))
+
+  pub ill_typed_answer : (f : Fault) → text ≡ type_fault_line f → IfOk r (λ a. a ≡ answer_of (answer (ill_typed f)))
+  ill_typed_answer f same = refusing (λ a. a ≡ answer_of (answer (ill_typed f))) (λ a is. is ∙ ap (λ t. record { status = Refused; lines = t ∷ [] }) same)
 
 -- ---- a derivation
 
@@ -167,13 +172,21 @@ module _ (b : Bundle) (told : List ℕ → Told) (Failed : List ℕ → Type 0) 
 
   -- ---- a bundle
 
-  pub can_be_judged : (q : Sequent) → IsObligation b q → IsJudgedAnswer b told Failed proof a → IsBundleAnswer b told Failed proof a
-  unfolding IsObligation IsBundleAnswer
+  pub can_be_judged : (q : Sequent) → IsObligation b q → IsJudgedAnswer b told Failed proof a → IsTypedAnswer b told Failed proof a
+  unfolding IsObligation IsTypedAnswer
   can_be_judged q obligation h = inr (obligation.parts, obligation.straight, h)
 
-  pub cannot_be_judged : IsFound b None → a ≡ answer_of (answer not_built) → IsBundleAnswer b told Failed proof a
-  unfolding IsFound IsBundleAnswer
+  pub cannot_be_judged : IsFound b None → a ≡ answer_of (answer not_built) → IsTypedAnswer b told Failed proof a
+  unfolding IsFound IsTypedAnswer
   cannot_be_judged none is = inl (none, is)
+
+  pub bundle_typed : first_fault b ≡ None → IsTypedAnswer b told Failed proof a → IsBundleAnswer b told Failed proof a
+  unfolding IsBundleAnswer
+  bundle_typed faultless h = inr (faultless, h)
+
+  pub bundle_faulty : (f : Fault) × (first_fault b ≡ Some f) × (a ≡ answer_of (answer (ill_typed f))) → IsBundleAnswer b told Failed proof a
+  unfolding IsBundleAnswer
+  bundle_faulty h = inl h
 
 pub found_some : (b : Bundle) (o : Option Sequent) (q s : Sequent) → IsAnswer b o → o ≡ Some q → s ≡ q → IsFound b (Some s)
 unfolding IsFound

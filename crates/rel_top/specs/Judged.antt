@@ -1,8 +1,10 @@
 -- What the answers of the parts of `check` and `show` say, each under a word of its own.
-use Rattle.std.specs.Prelude.{◌≡◌, ◌⊎◌, ℕ, List, Option, Some}
+use Rattle.std.specs.Prelude.{◌≡◌, ◌⊎◌, ℕ, List, Option, Some, None}
 use Rattle.rel_io.specs.Told.{Told}
 use Rattle.rel_lang.specs.Syntax.{Bundle}
 use Rattle.rel_lang.specs.TrueBundle.{IsTrueBundle}
+use Rattle.rel_flaws.specs.Flaws.{Fault}
+use Rattle.rel_types.specs.Items.{first_fault}
 use Rattle.rel_derive.specs.declared.step.Step.{Step}
 use Rattle.rel_logic.specs.declared.sequent.Sequent.{Sequent}
 use Rattle.rel_linking.specs.Form.{Parts, IsStraight}
@@ -13,7 +15,7 @@ use Rattle.rel_top.specs.declared.status.Status.TheVariants.{Yes, OutputFault}
 use Rattle.rel_top.specs.Ending.{Words, Reply, unread, answer, HasReply, status_of, lines_of, Output, IsPrinted, IsCutOff}
 use Rattle.rel_top.specs.Headline.{IsYes}
 use Rattle.rel_top.specs.ProofFile.{proof_of}
-use Rattle.rel_top.specs.Verdict.{Refusal, IsRefused, IsRead, Outcome, accepted, HasOutcome, refused, not_built, judged, printed, MayHold}
+use Rattle.rel_top.specs.Verdict.{Refusal, IsRefused, IsRead, Outcome, accepted, HasOutcome, refused, ill_typed, not_built, judged, printed, MayHold}
 
 -- the answer that this reply is
 abbrev pub answer_of : Reply → Answer
@@ -50,11 +52,17 @@ IsProofAnswer b content a = (k : Parts) → IsStraight b k → IsOutcomeAnswer b
 unfoldable pub IsJudgedAnswer : Bundle → (List ℕ → Told) → (List ℕ → Type 0) → List ℕ → Answer → Type 0
 IsJudgedAnswer b told Failed proof a = (Failed proof × (a ≡ answer_of (unread proof))) ⊎ MayHold (told proof) (λ content. IsProofAnswer b content a)
 
+-- of a bundle without a fault
+unfoldable pub IsTypedAnswer : Bundle → (List ℕ → Told) → (List ℕ → Type 0) → List ℕ → Answer → Type 0
+IsTypedAnswer b told Failed proof a =
+    (((k : Parts) → ¬ (IsStraight b k)) × (a ≡ answer_of (answer not_built)))
+    ⊎ ((k : Parts) × IsStraight b k × IsJudgedAnswer b told Failed proof a)
+
 -- of a bundle
 unfoldable pub IsBundleAnswer : Bundle → (List ℕ → Told) → (List ℕ → Type 0) → List ℕ → Answer → Type 0
 IsBundleAnswer b told Failed proof a =
-    (((k : Parts) → ¬ (IsStraight b k)) × (a ≡ answer_of (answer not_built)))
-    ⊎ ((k : Parts) × IsStraight b k × IsJudgedAnswer b told Failed proof a)
+    ((f : Fault) × (first_fault b ≡ Some f) × (a ≡ answer_of (answer (ill_typed f))))
+    ⊎ ((first_fault b ≡ None) × IsTypedAnswer b told Failed proof a)
 
 -- of a text
 unfoldable pub IsTextAnswer : List ℕ → (List ℕ → Told) → (List ℕ → Type 0) → List ℕ → Answer → Type 0

@@ -3,6 +3,7 @@ use Rattle.std.specs.Prelude.{ℕ, List, [], ◌∷◌, ◌++◌, codes}
 use Rattle.std.specs.Fmt.{decimal}
 use Rattle.rel_lang.specs.Syntax.{Word, Item, OfClass, OfInterface, OfModule, OfUnit, OfClient, OfJudgement, OfPair}
 use Rattle.rel_lang.specs.declared.fault.LexKind.TheVariants.{BadChar, WideLiteral}
+use Rattle.rel_flaws.specs.Flaws.{Kind, Twice, Unknown, Missing, NoMain, NotVisible, WrongArity, Target, OldHere, NotCode, WrongType, Fault}
 use Rattle.rel_decls.specs.declared.fault.TextFault.{TextFault}
 use Rattle.rel_decls.specs.declared.fault.TextFault.TheVariants.{NotUtf8, Lexical, Syntax, TooDeep, TooMany, Memory}
 
@@ -34,6 +35,21 @@ text_fault_line (Syntax at) = refused_line (codes "Syntax") at
 text_fault_line (TooDeep at) = refused_line (codes "TooDeep") at
 text_fault_line (TooMany at) = refused_line (codes "TooMany") at
 text_fault_line Memory = []
+
+abbrev pub kind_words : Kind → List ℕ
+kind_words Twice = codes "Typing Twice"
+kind_words Unknown = codes "Typing Unknown"
+kind_words Missing = codes "Typing Missing"
+kind_words NoMain = codes "Typing NoMain"
+kind_words NotVisible = codes "Typing NotVisible"
+kind_words WrongArity = codes "Typing WrongArity"
+kind_words Target = codes "Typing Target"
+kind_words OldHere = codes "Typing OldHere"
+kind_words NotCode = codes "Typing NotCode"
+kind_words WrongType = codes "Typing WrongType"
+
+abbrev pub type_fault_line : Fault → List ℕ
+type_fault_line f = refused_line (kind_words f.kind) f.at
 
 abbrev pub bundle_line : List ℕ
 bundle_line = line (codes "refused NotBuilt bundle")

@@ -7,13 +7,15 @@ use Rattle.rel_lang.specs.Text.{spaced, show_item, StandsFor}
 use Rattle.rel_decls.specs.Faults.{HasFault}
 use Rattle.rel_decls.specs.declared.fault.TextFault.{TextFault}
 use Rattle.rel_decls.specs.declared.fault.TextFault.TheVariants as faults
+use Rattle.rel_flaws.specs.Flaws.{Fault}
+use Rattle.rel_types.specs.Items.{first_fault}
 use Rattle.rel_derive.specs.Rules.{IsAccepted}
 use Rattle.rel_derive.specs.Stack.{IsBadStep, LeavesOpen}
 use Rattle.rel_derive.specs.declared.step.Step.{Step}
 use Rattle.rel_linking.specs.Form.{Parts, IsStraight}
 use Rattle.rel_linking.specs.Obligation.{obligation_of}
 use Rattle.rel_top.specs.ProofFile.{proof_of}
-use Rattle.rel_top.specs.Report.{line, large_line, text_fault_line, bundle_line, proof_line, bad_step_line, open_nodes_line, item_line, yes_line}
+use Rattle.rel_top.specs.Report.{line, large_line, text_fault_line, type_fault_line, bundle_line, proof_line, bad_step_line, open_nodes_line, item_line, yes_line}
 use Rattle.rel_top.specs.declared.status.Status.{Status}
 use Rattle.rel_top.specs.declared.status.Status.TheVariants.{Yes, Refused}
 
@@ -34,16 +36,24 @@ pub record IsRead (text : List ℕ) (b : Bundle) : Type 0 where
   pub stands : StandsFor text b
   pub fits : Fits b
 
+-- their bundle isn't typed, and this is its first fault
+pub record IsIllTyped (text : List ℕ) (f : Fault) : Type 0 where
+  pub bundle : Bundle
+  pub read : IsRead text bundle
+  pub fault : first_fault bundle ≡ Some f
+
 -- their bundle can be judged, and these are its parts
 pub record IsBuilt (text : List ℕ) (k : Parts) : Type 0 where
   pub bundle : Bundle
   pub read : IsRead text bundle
+  pub faultless : first_fault bundle ≡ None
   pub straight : IsStraight bundle k
 
 -- their bundle can't be judged so far
 pub record IsNotBuilt (text : List ℕ) : Type 0 where
   pub bundle : Bundle
   pub read : IsRead text bundle
+  pub faultless : first_fault bundle ≡ None
   pub other : (k : Parts) → ¬ (IsStraight bundle k)
 
 -- ---- the bytes of a proof file
@@ -70,9 +80,10 @@ HasOutcome k accepted content = Says content (λ steps. IsAccepted (obligation_o
 
 -- ---- the two files
 
--- the bundle isn't read; or it can't be judged so far; or its parts are these and its proof file comes to this; or it is printed
+-- the bundle isn't read; or it isn't typed; or it can't be judged so far; or its parts are these and its proof file comes to this; or it is printed
 pub data Verdict : Type 0 where
   refused : Refusal → Verdict
+  ill_typed : Fault → Verdict
   not_built : Verdict
   judged : Parts → Outcome → Verdict
   printed : Bundle → Verdict
@@ -84,6 +95,7 @@ MayHold told P = (content : List ℕ) × IsToldAs told content × P content
 -- the verdict of `check` on what is told of a bundle's file and of a proof's, which only a bundle that can be judged needs
 abbrev pub IsJudgedAs : Told → Told → Verdict → Type 0
 IsJudgedAs bundle proof (refused r) = MayHold bundle (λ text. IsRefused text r)
+IsJudgedAs bundle proof (ill_typed f) = MayHold bundle (λ text. IsIllTyped text f)
 IsJudgedAs bundle proof not_built = MayHold bundle IsNotBuilt
 IsJudgedAs bundle proof (judged k o) = MayHold bundle (λ text. IsBuilt text k) × MayHold proof (λ content. HasOutcome k o content)
 IsJudgedAs bundle proof (printed b) = ⊥
@@ -91,6 +103,7 @@ IsJudgedAs bundle proof (printed b) = ⊥
 -- that of `show`
 abbrev pub IsShownAs : Told → Verdict → Type 0
 IsShownAs bundle (refused r) = MayHold bundle (λ text. IsRefused text r)
+IsShownAs bundle (ill_typed f) = ⊥
 IsShownAs bundle not_built = ⊥
 IsShownAs bundle (judged k o) = ⊥
 IsShownAs bundle (printed b) = MayHold bundle (λ text. IsRead text b)
@@ -134,12 +147,14 @@ refusal_line (bad_text f) = text_fault_line f
 
 abbrev pub verdict_status : Verdict → Status
 verdict_status (refused r) = Refused
+verdict_status (ill_typed f) = Refused
 verdict_status not_built = Refused
 verdict_status (judged k o) = outcome_status o
 verdict_status (printed b) = Yes
 
 abbrev pub verdict_lines : Verdict → List (List ℕ)
 verdict_lines (refused r) = refusal_line r ∷ []
+verdict_lines (ill_typed f) = type_fault_line f ∷ []
 verdict_lines not_built = bundle_line ∷ []
 verdict_lines (judged k o) = outcome_lines k o
 verdict_lines (printed b) = map (λ i. line (spaced (show_item i))) b.items

@@ -5,9 +5,13 @@ ghost use Rattle.rel_io.specs.Told.{IsToldAs, IsLonger};
 ghost use Rattle.rel_io.specs.Answers.{IfFailed, UnlessFailed, IfTooLong};
 ghost use Rattle.rel_decls.specs.declared.fault.TextFault.TheVariants as texts;
 ghost use Rattle.rel_lang.specs.Refusal.{Fits};
+ghost use Rattle.rel_flaws.specs.Flaws as flaws;
+ghost use Rattle.rel_lang.specs.Syntax as syntax;
 ghost use Rattle.rel_lang.specs.View.{item_of, bundle_of};
+ghost use Rattle.rel_types.specs.Items.{first_fault};
+ghost use Rattle.rel_types.specs.Told.{IsFirst};
 ghost use Rattle.rel_top.specs.Ending.{ReadFailed, unread, answer};
-ghost use Rattle.rel_top.specs.Judged.{OfParts, IsObligation, IsFound, IsStepsAnswer, IsProofAnswer, IsJudgedAnswer, IsBundleAnswer, IsTextAnswer, IsCheckAnswer, answer_of};
+ghost use Rattle.rel_top.specs.Judged.{OfParts, IsObligation, IsFound, IsStepsAnswer, IsProofAnswer, IsJudgedAnswer, IsTypedAnswer, IsBundleAnswer, IsTextAnswer, IsCheckAnswer, answer_of};
 ghost use Rattle.rel_top.specs.Report.{item_line, yes_line};
 ghost use Rattle.rel_top.specs.Verdict.{too_large, bad_text, refused, not_built, judged, no_proof};
 ghost use Rattle.rel_top.specs.Verdict as V;
@@ -23,6 +27,7 @@ use rel_lang::bundle::{Bundle, Item};
 use rel_linking::obligation;
 use rel_list::{Boxed, List, Memory, Name};
 use rel_logic::sequent::Sequent;
+use rel_types::{TypeFault, resolve};
 use std::alloc::Global;
 
 pub const BUNDLE_LIMIT: u64 = 1 << 22;
@@ -115,6 +120,20 @@ pub fn faulty(alloc: Global, fault: TextFault) -> Result<Answer, Memory>
     with_line(alloc, Status::Refused, report::text_fault(alloc, fault)?)
 }
 
+/// The bundle has this fault first.
+fn ill_typed(alloc: Global, fault: TypeFault) -> Result<Answer, Memory>
+    ensures { IfOk result (λ a. (b : syntax.Bundle) → IsFirst b fault
+        → (f : flaws.Fault) × (first_fault b ≡ Some f) × (a ≡ answer_of (answer (V.ill_typed f)))) }
+{
+    match fault {
+        TypeFault::Fault(kind, at) => {
+            let line = report::type_fault(alloc, kind, at)?;
+            Ok(with_line(alloc, Status::Refused, line)?)
+        }
+        TypeFault::Memory => Err(Memory),
+    }
+}
+
 fn without_bundle(alloc: Global) -> Result<Answer, Memory>
     ensures { IfOk result (λ a. a ≡ answer_of (answer not_built)) }
 {
@@ -142,7 +161,7 @@ fn check_text<F: Files>(
     ensures quiet { IfOk result (λ a. a.status ≢ Status.FileFault → F.faults files.new ≡ F.faults files.old) }
 {
     match parse_bundle(alloc, text) {
-        Ok(bundle) => Ok(check_bundle(alloc, &bundle, proof, files)?),
+        Ok(bundle) => Ok(check_bundle(alloc, bundle, proof, files)?),
         Err(fault) => Ok(faulty(alloc, fault)?),
     }
 }
@@ -160,12 +179,32 @@ fn boxed_obligation(alloc: Global, bundle: &Bundle) -> Result<Option<Boxed<Seque
 
 fn check_bundle<F: Files>(
     alloc: Global,
+    bundle: Bundle,
+    proof: &str,
+    files: &mut F,
+) -> Result<Answer, Memory>
+    requires { Fits (bundle_of bundle) }
+    ensures answer { IfOk result (IsBundleAnswer (bundle_of bundle) (F.told files.old)
+        (ReadFailed (F.faults files.old) (F.faults files.new)
+        (F.read_faults files.old) (F.read_faults files.new))
+        proof.now) }
+    ensures contents_stay { F.told files.new ≡ F.told files.old }
+    ensures quiet { IfOk result (λ a. a.status ≢ Status.FileFault → F.faults files.new ≡ F.faults files.old) }
+{
+    match resolve(alloc, bundle) {
+        Ok(typed) => Ok(check_typed(alloc, &typed.bundle, proof, files)?),
+        Err(fault) => Ok(ill_typed(alloc, fault)?),
+    }
+}
+
+fn check_typed<F: Files>(
+    alloc: Global,
     bundle: &Bundle,
     proof: &str,
     files: &mut F,
 ) -> Result<Answer, Memory>
     requires { Fits (bundle_of bundle.now) }
-    ensures answer { IfOk result (IsBundleAnswer (bundle_of bundle.now) (F.told files.old)
+    ensures answer { IfOk result (IsTypedAnswer (bundle_of bundle.now) (F.told files.old)
         (ReadFailed (F.faults files.old) (F.faults files.new)
         (F.read_faults files.old) (F.read_faults files.new))
         proof.now) }

@@ -2,12 +2,13 @@
 
 ghost use Rattle.std.specs.Prelude.{◌≡◌, ◌≢◌, IfOk};
 ghost use Rattle.rel_decls.specs.declared.fault.TextFault.TheVariants as faults;
+ghost use Rattle.rel_flaws.specs.View.{kind_of as type_kind_of};
 ghost use Rattle.rel_lang.specs.View.{item_of};
-ghost use Rattle.rel_top.specs.Report.{usage_line, fault_line, large_line, refused_line, text_fault_line, bundle_line, proof_line, kind_of, name_of as item_name, byte_of, bad_step_line, open_nodes_line, item_line, yes_line};
+ghost use Rattle.rel_top.specs.Report.{usage_line, fault_line, large_line, refused_line, text_fault_line, type_fault_line, bundle_line, proof_line, kind_of, name_of as item_name, byte_of, bad_step_line, open_nodes_line, item_line, yes_line};
 
 use rel_decls::TextFault;
-use rel_lang::fault::LexKind;
 use rel_lang::bundle::Item;
+use rel_lang::fault::{LexKind, TypeKind};
 use rel_list::{Memory, Name};
 use std::alloc::Global;
 
@@ -55,6 +56,24 @@ pub fn text_fault(alloc: Global, fault: TextFault) -> Result<Name, Memory>
         TextFault::TooDeep(at) => refused(alloc, "TooDeep", at),
         TextFault::TooMany(at) => refused(alloc, "TooMany", at),
         TextFault::Memory => Err(Memory),
+    }
+}
+
+/// The bundle has a fault of this kind first, at this byte.
+pub fn type_fault(alloc: Global, kind: TypeKind, at: u32) -> Result<Name, Memory>
+    ensures { IfOk result (λ text. text ≡ type_fault_line (record { kind = type_kind_of kind; at = at })) }
+{
+    match kind {
+        TypeKind::Twice => refused(alloc, "Typing Twice", at),
+        TypeKind::Unknown => refused(alloc, "Typing Unknown", at),
+        TypeKind::Missing => refused(alloc, "Typing Missing", at),
+        TypeKind::NoMain => refused(alloc, "Typing NoMain", at),
+        TypeKind::NotVisible => refused(alloc, "Typing NotVisible", at),
+        TypeKind::WrongArity => refused(alloc, "Typing WrongArity", at),
+        TypeKind::Target => refused(alloc, "Typing Target", at),
+        TypeKind::OldHere => refused(alloc, "Typing OldHere", at),
+        TypeKind::NotCode => refused(alloc, "Typing NotCode", at),
+        TypeKind::WrongType => refused(alloc, "Typing WrongType", at),
     }
 }
 

@@ -24,3 +24,5 @@ pub mod Owned
 pub mod Calling
 pub mod SameTables
 pub mod SameItems
+pub mod ItemLoop
+pub mod Numbering
