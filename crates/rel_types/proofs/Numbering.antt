@@ -1,7 +1,9 @@
 -- The classes and the fields of a list of items, one item after the other.
-use Rattle.std.proofs.Common.{◌≡◌, ℕ, ◌+◌, ◌<◌, Bool, true, false, ◌||◌, List, [], ◌∷◌, ◌++◌, map, take, drop, get_or, length, Option, Some, None, refl, sym, ap, ap₂, subst, ◌∙◌, append_assoc, append-nil}
+use Rattle.std.proofs.Common.{◌≡◌, ℕ, suc, ◌+◌, ◌<◌, ◌≤◌, Bool, true, false, ◌||◌, List, [], ◌∷◌, ◌++◌, map, take, drop, get_or, length, Option, Some, None, refl, sym, ap, ap₂, subst, ◌∙◌, append_assoc, append-nil}
 use Rattle.std.specs.Prelude.{bytes_eq, is_some}
-use Rattle.std.proofs.lemmas.List.{take_more, take_all, map-append}
+use Rattle.std.proofs.Math.Seq.{drop-cons}
+use Rattle.std.proofs.lemmas.List.{take_more, take_all, map-append, take-append-drop}
+use Rattle.std.proofs.lemmas.Slice.Eq.{bytes_eq-Decides}
 use Rattle.rel_lang.specs.Syntax.{Word, Decl, ClassItem, Item, OfClass, OfInterface, OfModule, OfUnit, OfClient, OfJudgement, OfPair, Bundle}
 use Rattle.rel_lang.specs.State.{Tables, tables_of, ClassField, class_items, fields_of, class_number}
 use Rattle.rel_lang.specs.View.{class_of, decl_of, item_of}
@@ -17,7 +19,7 @@ use Rattle.rel_flaws.proofs.Indexes.{is_listed}
 use Rattle.rel_types.specs.Known.{IsKnown}
 use Rattle.rel_types.specs.Numbers.{NumberedField, field_infos, infos_of_class, numbered}
 use Rattle.rel_types.specs.declared.known.Known as K
-use Rattle.rel_types.proofs.Repeats.{or_assoc}
+use Rattle.rel_types.proofs.Repeats.{among_both}
 
 -- ---- a number
 
@@ -25,7 +27,10 @@ use Rattle.rel_types.proofs.Repeats.{or_assoc}
 pub is_known : (b : Bundle) (known : K.Known) (c : Word) → IsKnown b known → is_class (tables_of b) c ≡ true → find_entry c known.tables.classes ≡ None → ⊥
 is_known b known c k listed none =
     let some : is_some (find_entry c known.tables.classes) ≡ true = is_listed c known.tables.classes ∙ k.tables.classes c ∙ listed in
-    let e : is_some {A = ℕ} None ≡ true = ap is_some (sym none) ∙ some in cc
+    absurd (nothing (sym (ap is_some none) ∙ some))
+  where
+    nothing : false ≡ true → ⊥
+    nothing e = cc
 
 -- ---- lists of items
 
@@ -105,6 +110,40 @@ module _ (t : Tables) (items list : List I.Item) (i : ℕ) (d : I.Item) (same : 
 
 -- ---- a class is among those of its bundle
 
-among_both : (x : Word) (xs ys : List Word) → is_among x (xs ++ ys) ≡ (is_among x xs || is_among x ys)
-among_both x [] ys = refl
-among_both x (y ∷ xs) ys = ap (λ b. bytes_eq x y || b) (among_both x xs ys) ∙ sym (or_assoc (bytes_eq x y) (is_among x xs) (is_among x ys))
+or_true : (b : Bool) → (b || true) ≡ true
+or_true true = refl
+or_true false = refl
+
+among_front : (x : Word) (xs ys : List Word) → is_among x (xs ++ x ∷ ys) ≡ true
+among_front x xs ys =
+    among_both x xs (x ∷ ys) ∙ ap (λ b. is_among x xs || (b || is_among x ys)) ((bytes_eq-Decides x x).1 refl) ∙ or_true (is_among x xs)
+
+pub listed_at : (items list : List I.Item) (i : ℕ) (d : I.Item) (c : C.Class) → items ≡ list → i < length items → d ≡ get_or items i d → d ≡ IV.Class c
+    → is_class (tables_of (record { items = map item_of list })) c.name ≡ true
+listed_at items list i d c same within at is =
+    ap (is_among c.name) (ap (λ l. class_names (map item_of l)) (sym same ∙ sym (take-append-drop i items) ∙ ap (λ l. take i items ++ l) (drop-cons items i d within)
+    ∙ ap (λ x. take i items ++ x ∷ drop (suc i) items) (sym at ∙ is))
+    ∙ ap class_names (map-append item_of (take i items) (IV.Class c ∷ drop (suc i) items))
+    ∙ ap (map (λ x. x.name)) (classes_both (map item_of (take i items)) (OfClass (class_of c) ∷ map item_of (drop (suc i) items)))
+    ∙ map-append (λ x. x.name) (class_items (map item_of (take i items))) (class_of c ∷ class_items (map item_of (drop (suc i) items))))
+    ∙ among_front c.name (class_names (map item_of (take i items))) (class_names (map item_of (drop (suc i) items)))
+
+-- ---- the end of the loop
+
+pub gathered_all : (t : Tables) (names : List Word) (fields : List F.FieldInfo) (items list : List I.Item) (i : ℕ) → items ≡ list → length items ≤ i → AreGathered t names fields list i
+    → (names ≡ class_names (map item_of list)) × (field_infos fields ≡ numbered_in t (map item_of list))
+gathered_all t names fields items list i same past h =
+    let whole : take i list ≡ list = ap (take i) (sym same) ∙ take_all i items past ∙ same in
+    (h.classes ∙ ap (λ l. class_names (map item_of l)) whole, h.numbers ∙ ap (λ l. numbered_in t (map item_of l)) whole)
+
+-- ---- the fields of one class
+
+pub more_infos : (n : ℕ) (before after : List F.FieldInfo) (first : List NumberedField) (f : F.FieldInfo) (ds : List D.Decl) (i : ℕ) (d : D.Decl) → i < length ds → d ≡ get_or ds i d
+    → field_infos before ≡ first ++ infos_of_class n (map decl_of (take i ds)) → after ≡ before ++ f ∷ []
+    → field_infos (f ∷ []) ≡ infos_of_class n (decl_of d ∷ [])
+    → field_infos after ≡ first ++ infos_of_class n (map decl_of (take (i + 1) ds))
+more_infos n before after first f ds i d within at old new one =
+    ap field_infos new ∙ map-append _ before (f ∷ []) ∙ ap₂ (λ a b. a ++ b) old one
+    ∙ append_assoc first (infos_of_class n (map decl_of (take i ds))) (infos_of_class n (decl_of d ∷ []))
+    ∙ ap (λ l. first ++ l) (sym (map-append _ (map decl_of (take i ds)) (decl_of d ∷ []))
+    ∙ ap (infos_of_class n) (sym (map-append decl_of (take i ds) (d ∷ [])) ∙ ap (λ x. map decl_of (take i ds ++ x ∷ [])) at ∙ ap (map decl_of) (sym (take_more ds i d within))))

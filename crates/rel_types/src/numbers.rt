@@ -1,8 +1,9 @@
 //! The classes and the fields of a bundle in order of declaration.
 
-ghost use Rattle.std.specs.Prelude.{◌≡◌, ◌++◌, ◌∷◌, [], map, IfOk, OnOk, true};
-ghost use Rattle.rel_lang.specs.State.{tables_of, class_number};
-ghost use Rattle.rel_lang.specs.View.{bundle_of, decl_of};
+ghost use Rattle.std.specs.Prelude.{◌≡◌, ◌++◌, ◌∷◌, [], map, IfOk, OnOk, IfSome, IfNone, true};
+ghost use Rattle.rel_lang.specs.State.{tables_of, class_items, class_number};
+ghost use Rattle.rel_lang.specs.View.{bundle_of, decl_of, item_of};
+ghost use Rattle.rel_lang.specs.declared.bundle.Item.TheVariants as items;
 ghost use Rattle.rel_flaws.specs.Inference.{is_class};
 ghost use Rattle.rel_types.specs.Known.{IsKnown};
 ghost use Rattle.rel_types.specs.Numbers.{AreClasses, AreFields, field_infos, infos_of_class};
@@ -50,6 +51,22 @@ fn number_of(known: &Known<'_>, class: &str) -> u32
     }
 }
 
+/// The class that an item is, where it is one.
+fn class_in(item: &Item) -> Option<&Class>
+    ensures some { IfSome result (λ c. item.now ≡ items.Class c.now) }
+    ensures none { IfNone result (class_items (item_of item.now ∷ []) ≡ []) }
+{
+    match item {
+        Item::Class(class) => Some(class),
+        Item::Interface(_)
+        | Item::Module(_)
+        | Item::UnitItem(_)
+        | Item::Client(_)
+        | Item::Judge(_)
+        | Item::Pair(_) => None,
+    }
+}
+
 /// The classes and the fields of the bundle.
 pub(crate) fn numbers_of<'a>(
     alloc: Global,
@@ -63,9 +80,13 @@ pub(crate) fn numbers_of<'a>(
     let mut classes = List::new(alloc);
     let mut fields = List::new(alloc);
     for item in bundle.items.as_slice() {
-        if let Item::Class(class) = item {
-            classes.push(class.name.copy()?)?;
-            add_fields(&mut fields, number_of(known, class.name.as_str()), &class.fields)?;
+        match class_in(item) {
+            Some(class) => {
+                classes.push(class.name.copy()?)?;
+                let number = number_of(known, class.name.as_str());
+                add_fields(&mut fields, number, &class.fields)?;
+            }
+            None => {}
         }
     }
     Ok(Numbers { classes, fields })
