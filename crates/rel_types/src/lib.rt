@@ -2,6 +2,7 @@
 #![tactic(auto)]
 
 mod around;
+mod bodies;
 mod bundles;
 mod called;
 mod clients;
@@ -12,6 +13,7 @@ mod judgements;
 mod known;
 pub mod laws;
 mod members;
+mod methods;
 mod modules;
 mod names;
 mod own;
