@@ -61,8 +61,8 @@ adds_both : {A V : Type 0} (R : A → V → Type 0) (name : A → Word) (es fs g
 adds_both R name es fs gs ms ns h k before l =
     subst (λ bs. AreByName R name bs gs) (append_assoc before ms ns) (k (before ++ ms) (h before l))
 
-pub from_none : {A V : Type 0} (R : A → V → Type 0) (name : A → Word) (es : List (Word × V)) (ms : List A) → Adds R name [] es ms → AreByName R name ms es
-from_none R name es ms h = h [] (λ x. tt)
+pub from_none : {A V : Type 0} (R : A → V → Type 0) (name : A → Word) (before es : List (Word × V)) (ms : List A) → before ≡ [] → Adds R name before es ms → AreByName R name ms es
+from_none R name before es ms e h = h [] (subst (AreByName R name []) (sym e) (λ x. tt))
 
 -- What the first so many of a list give, and what the next gives.
 pub adds_next : {A B V X : Type 0} (R : A → V → Type 0) (name : A → Word) (gives : List B → List A) → ((bs cs : List B) → gives (bs ++ cs) ≡ gives bs ++ gives cs) → (f : X → B)
