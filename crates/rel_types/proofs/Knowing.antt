@@ -47,12 +47,16 @@ both_last : {A V : Type 0} (R : A → V → Type 0) (a : A) (v : V) (b : Bool) �
 both_last R a v true h = h
 both_last R a v false h = tt
 
-pub adds_one : {A V : Type 0} (R : A → V → Type 0) (name : A → Word) (es : List (Word × V)) (a : A) (y : Word) (v : V) → y ≡ name a → R a v → Adds R name es (with_entry es y v) (a ∷ [])
-adds_one R name es a y v e r before h x =
+-- the list with one more has what the index with one more has
+one_more : {A V : Type 0} (R : A → V → Type 0) (name : A → Word) (es : List (Word × V)) (a : A) (y : Word) (v : V) → y ≡ name a → R a v → Adds R name es (with_entry es y v) (a ∷ [])
+one_more R name es a y v e r before h x =
     subst (λ o. BothAre R o (find_entry x (with_entry es y v))) (sym (found_both name x before (a ∷ [])))
     (subst (λ p. BothAre R (or_next (find_named name x before) (if bytes_eq x (name a) then Some a else None)) p) (sym (entry_with es y v x))
     (both_next R (find_named name x before) (if bytes_eq x (name a) then Some a else None) (find_entry x es) (if bytes_eq x y then Some v else None) (h x)
     (subst (λ z. BothAre R (if bytes_eq x z then Some a else None) (if bytes_eq x y then Some v else None)) e (both_last R a v (bytes_eq x y) r))))
+
+pub adds_one : {A V : Type 0} (R : A → V → Type 0) (name : A → Word) (es fs : List (Word × V)) (a : A) (y : Word) (v : V) → fs ≡ with_entry es y v → y ≡ name a → R a v → Adds R name es fs (a ∷ [])
+adds_one R name es fs a y v is e r = subst (λ gs. Adds R name es gs (a ∷ [])) (sym is) (one_more R name es a y v e r)
 
 pub adds_none : {A V : Type 0} (R : A → V → Type 0) (name : A → Word) (es : List (Word × V)) → Adds R name es es []
 adds_none R name es before h = subst (λ l. AreByName R name l es) (sym (append-nil before)) h

@@ -2,10 +2,11 @@
 use Rattle.std.proofs.Common.{◌≡◌, true, false, List, [], ◌∷◌, ◌++◌, map, Option, Some, None, option_map, if◌then◌else◌, refl, sym, ap, ◌∙◌, subst}
 use Rattle.std.specs.Prelude.{bytes_eq}
 use Rattle.rel_lang.specs.Syntax as syntax
-use Rattle.rel_lang.specs.Syntax.{Word, Body}
-use Rattle.rel_lang.specs.State.{Owner, ByQuantifier, Scope, find_named}
+use Rattle.rel_lang.specs.Syntax.{OfClass, OfInterface, OfModule, OfUnit, OfClient, OfJudgement, OfPair}
+use Rattle.rel_lang.specs.Syntax.{Word}
+use Rattle.rel_lang.specs.State.{Owner, ByQuantifier, class_items}
 use Rattle.rel_lang.specs.Scope.{declared}
-use Rattle.rel_lang.specs.Lookup.{find_body}
+use Rattle.rel_lang.specs.Lookup.{interfaces_of, units_of, modules_of, judgements_of}
 use Rattle.rel_lang.specs.Typed.{Signature}
 use Rattle.rel_flaws.specs.CodeView.{callees_seen}
 use Rattle.rel_flaws.specs.Entries.{find_entry}
@@ -37,3 +38,55 @@ both_mapped f R None None h = h
 both_mapped f R (Some a) (Some v) h = h
 both_mapped f R None (Some v) h = h
 both_mapped f R (Some a) None h = h
+
+-- ---- the items of one kind
+
+pub interfaces_both : (is js : List syntax.Item) → interfaces_of (is ++ js) ≡ interfaces_of is ++ interfaces_of js
+interfaces_both [] js = refl
+interfaces_both (OfClass c ∷ is) js = interfaces_both is js
+interfaces_both (OfInterface i ∷ is) js = ap (λ l. i ∷ l) (interfaces_both is js)
+interfaces_both (OfModule m ∷ is) js = interfaces_both is js
+interfaces_both (OfUnit u ∷ is) js = interfaces_both is js
+interfaces_both (OfClient c ∷ is) js = interfaces_both is js
+interfaces_both (OfJudgement j ∷ is) js = interfaces_both is js
+interfaces_both (OfPair p ∷ is) js = interfaces_both is js
+
+pub units_both : (is js : List syntax.Item) → units_of (is ++ js) ≡ units_of is ++ units_of js
+units_both [] js = refl
+units_both (OfClass c ∷ is) js = units_both is js
+units_both (OfInterface i ∷ is) js = units_both is js
+units_both (OfModule m ∷ is) js = units_both is js
+units_both (OfUnit u ∷ is) js = ap (λ l. u ∷ l) (units_both is js)
+units_both (OfClient c ∷ is) js = units_both is js
+units_both (OfJudgement j ∷ is) js = units_both is js
+units_both (OfPair p ∷ is) js = units_both is js
+
+pub modules_both : (is js : List syntax.Item) → modules_of (is ++ js) ≡ modules_of is ++ modules_of js
+modules_both [] js = refl
+modules_both (OfClass c ∷ is) js = modules_both is js
+modules_both (OfInterface i ∷ is) js = modules_both is js
+modules_both (OfModule m ∷ is) js = ap (λ l. m ∷ l) (modules_both is js)
+modules_both (OfUnit u ∷ is) js = modules_both is js
+modules_both (OfClient c ∷ is) js = modules_both is js
+modules_both (OfJudgement j ∷ is) js = modules_both is js
+modules_both (OfPair p ∷ is) js = modules_both is js
+
+pub judgements_both : (is js : List syntax.Item) → judgements_of (is ++ js) ≡ judgements_of is ++ judgements_of js
+judgements_both [] js = refl
+judgements_both (OfClass c ∷ is) js = judgements_both is js
+judgements_both (OfInterface i ∷ is) js = judgements_both is js
+judgements_both (OfModule m ∷ is) js = judgements_both is js
+judgements_both (OfUnit u ∷ is) js = judgements_both is js
+judgements_both (OfClient c ∷ is) js = judgements_both is js
+judgements_both (OfJudgement j ∷ is) js = ap (λ l. j ∷ l) (judgements_both is js)
+judgements_both (OfPair p ∷ is) js = judgements_both is js
+
+pub classes_both : (is js : List syntax.Item) → class_items (is ++ js) ≡ class_items is ++ class_items js
+classes_both [] js = refl
+classes_both (OfClass c ∷ is) js = ap (λ l. c ∷ l) (classes_both is js)
+classes_both (OfInterface i ∷ is) js = classes_both is js
+classes_both (OfModule m ∷ is) js = classes_both is js
+classes_both (OfUnit u ∷ is) js = classes_both is js
+classes_both (OfClient c ∷ is) js = classes_both is js
+classes_both (OfJudgement j ∷ is) js = classes_both is js
+classes_both (OfPair p ∷ is) js = classes_both is js

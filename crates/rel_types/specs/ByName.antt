@@ -1,8 +1,8 @@
 -- What an index has of a list, by name.
-use Rattle.std.specs.Prelude.{◌≡◌, ℕ, suc, List, [], ◌∷◌, ◌++◌, Option, Some, None, option_map, bytes_eq, if◌then◌else◌}
+use Rattle.std.specs.Prelude.{◌≡◌, ℕ, suc, List, [], ◌∷◌, ◌++◌, map, length, Option, Some, None, option_map, bytes_eq, if◌then◌else◌}
 use denote.Ref.{Bor}
-use Rattle.rel_lang.specs.Syntax.{Word, Body, Judgement}
-use Rattle.rel_lang.specs.State.{ClassField, find_named}
+use Rattle.rel_lang.specs.Syntax.{Word, Body, Judgement, Item}
+use Rattle.rel_lang.specs.State.{ClassField, find_named, class_items}
 use Rattle.rel_lang.specs.declared.bundle.Decl as D
 use Rattle.rel_flaws.specs.Entries.{find_entry}
 use Rattle.rel_flaws.specs.View.{field_of}
@@ -41,3 +41,11 @@ place_in x (y ∷ ys) = if bytes_eq x y then Some 0 else option_map suc (place_i
 -- each name has the number of its place
 abbrev pub AreNumbered : List Word → List (Word × ℕ) → Type 0
 AreNumbered names es = (x : Word) → find_entry x es ≡ place_in x names
+
+-- and so many names there are
+pub record AreCounted (names : List Word) (es : List (Word × ℕ)) (count : ℕ) : Type 0 where
+  pub numbers : AreNumbered names es
+  pub count : count ≡ length names
+
+abbrev pub class_names : List Item → List Word
+class_names is = map (λ c. c.name) (class_items is)

@@ -4,7 +4,9 @@
 mod around;
 mod bodies;
 mod bundles;
+mod by_name;
 mod called;
+mod classes;
 mod clients;
 mod declarations;
 mod interfaces;
