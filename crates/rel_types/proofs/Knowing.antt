@@ -1,5 +1,5 @@
 -- What an index has of a list, by name, and one more of it.
-use Rattle.std.proofs.Common.{◌≡◌, ℕ, suc, ◌<◌, ◌≤◌, ◌+◌, Bool, true, false, if◌then◌else◌, List, [], ◌∷◌, ◌++◌, map, take, get_or, length, Option, Some, None, option_map, refl, sym, ap, ap₂, ◌∙◌, subst, append_assoc, append-nil}
+use Rattle.std.proofs.Common.{◌≡◌, ℕ, suc, ◌<◌, ◌≤◌, ◌+◌, Bool, true, false, if◌then◌else◌, List, [], ◌∷◌, ◌++◌, map, take, get_or, length, Option, Some, None, option_map, refl, sym, ap, ap₂, ◌∙◌, subst, append_assoc, append-nil, length-append}
 use Rattle.std.specs.Prelude.{bytes_eq}
 use Rattle.std.proofs.lemmas.Slice.Eq.{bytes_eq-Decides}
 use Rattle.std.proofs.lemmas.List.{take_more, take_all, map-append}
@@ -7,7 +7,7 @@ use Rattle.rel_lang.specs.Syntax.{Word}
 use Rattle.rel_lang.specs.State.{find_named}
 use Rattle.rel_flaws.specs.Entries.{find_entry, with_entry}
 use Rattle.rel_types.specs.Known.{BothAre}
-use Rattle.rel_types.specs.ByName.{AreByName, Adds, place_in, AreNumbered}
+use Rattle.rel_types.specs.ByName.{AreByName, Adds, place_in, AreCounted}
 use Rattle.rel_types.proofs.Calling.{or_next, found_both}
 
 -- ---- one more entry
@@ -68,14 +68,17 @@ adds_both R name es fs gs ms ns h k before l =
 pub from_none : {A V : Type 0} (R : A → V → Type 0) (name : A → Word) (before es : List (Word × V)) (ms : List A) → before ≡ [] → Adds R name before es ms → AreByName R name ms es
 from_none R name before es ms e h = h [] (subst (AreByName R name []) (sym e) (λ x. tt))
 
--- What the first so many of a list give, and what the next gives.
+-- what the first so many of a list give, and what the next gives
+pub gives_next : {A B X : Type 0} (gives : List B → List A) → ((bs cs : List B) → gives (bs ++ cs) ≡ gives bs ++ gives cs) → (f : X → B) (xs : List X) (i : ℕ) (d : X) → i < length xs → d ≡ get_or xs i d
+    → gives (map f (take i xs)) ++ gives (f d ∷ []) ≡ gives (map f (take (i + 1) xs))
+gives_next gives both f xs i d h is =
+    sym (ap (λ l. gives (map f l)) (take_more xs i d h ∙ ap (λ a. take i xs ++ a ∷ []) (sym is)) ∙ ap gives (map-append f (take i xs) (d ∷ [])) ∙ both (map f (take i xs)) (f d ∷ []))
+
 pub adds_next : {A B V X : Type 0} (R : A → V → Type 0) (name : A → Word) (gives : List B → List A) → ((bs cs : List B) → gives (bs ++ cs) ≡ gives bs ++ gives cs) → (f : X → B)
     → (es fs gs : List (Word × V)) (xs : List X) (i : ℕ) (d : X) → i < length xs → d ≡ get_or xs i d
     → Adds R name es fs (gives (map f (take i xs))) → Adds R name fs gs (gives (f d ∷ [])) → Adds R name es gs (gives (map f (take (i + 1) xs)))
 adds_next R name gives both f es fs gs xs i d h is old new =
-    subst (Adds R name es gs)
-    (sym (ap (λ l. gives (map f l)) (take_more xs i d h ∙ ap (λ a. take i xs ++ a ∷ []) (sym is)) ∙ ap gives (map-append f (take i xs) (d ∷ [])) ∙ both (map f (take i xs)) (f d ∷ [])))
-    (adds_both R name es fs gs (gives (map f (take i xs))) (gives (f d ∷ [])) old new)
+    subst (Adds R name es gs) (gives_next gives both f xs i d h is) (adds_both R name es fs gs (gives (map f (take i xs))) (gives (f d ∷ [])) old new)
 
 -- the same of a list itself
 pub adds_more : {A V X : Type 0} (R : A → V → Type 0) (name : A → Word) (f : X → A) (es fs gs : List (Word × V)) (xs : List X) (i : ℕ) (d : X) → i < length xs → d ≡ get_or xs i d
@@ -102,6 +105,11 @@ place_with x (z ∷ ys) y =
     moved None false = refl
     moved (Some n) b = refl
 
-pub numbers_more : (ys : List Word) (es : List (Word × ℕ)) (y : Word) (n : ℕ) → n ≡ length ys → AreNumbered ys es → AreNumbered (ys ++ y ∷ []) (with_entry es y n)
-numbers_more ys es y n e h x =
-    entry_with es y n x ∙ ap₂ (λ o m. or_next o (if bytes_eq x y then Some m else None)) (h x) e ∙ sym (place_with x ys y)
+pub counted_one : (ys : List Word) (es fs : List (Word × ℕ)) (x y : Word) (n m : ℕ) → fs ≡ with_entry es y n → y ≡ x → m ≡ n + 1 → AreCounted ys es n → AreCounted (ys ++ x ∷ []) fs m
+counted_one ys es fs x y n m is e next h = record {
+  numbers = λ z.
+      ap (find_entry z) is ∙ entry_with es y n z
+      ∙ ap₂ (λ o b. or_next o (if b then Some n else None)) (h.numbers z) (ap (bytes_eq z) e) ∙ ap (λ k. or_next (place_in z ys) (if bytes_eq z x then Some k else None)) h.count
+      ∙ sym (place_with z ys x);
+  count = next ∙ ap (λ k. k + 1) h.count ∙ sym (length-append ys (x ∷ []));
+}

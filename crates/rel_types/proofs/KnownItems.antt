@@ -1,13 +1,17 @@
 -- What is known of items.
-use Rattle.std.proofs.Common.{◌≡◌, true, false, List, [], ◌∷◌, ◌++◌, map, Option, Some, None, option_map, if◌then◌else◌, refl, sym, ap, ◌∙◌, subst}
+use Rattle.std.proofs.Common.{◌≡◌, true, false, List, [], ◌∷◌, ◌++◌, map, Option, Some, None, option_map, if◌then◌else◌, refl, sym, ap, ◌∙◌, subst, append_assoc, append-nil}
 use Rattle.std.specs.Prelude.{bytes_eq}
+use Rattle.std.proofs.lemmas.List.{map-append}
+use Rattle.std.proofs.lemmas.Simd.{map-map}
 use Rattle.rel_lang.specs.Syntax as syntax
 use Rattle.rel_lang.specs.Syntax.{OfClass, OfInterface, OfModule, OfUnit, OfClient, OfJudgement, OfPair}
 use Rattle.rel_lang.specs.Syntax.{Word}
-use Rattle.rel_lang.specs.State.{Owner, ByQuantifier, class_items}
+use Rattle.rel_lang.specs.State.{Owner, ByQuantifier, ClassField, class_items, fields_of}
 use Rattle.rel_lang.specs.Scope.{declared}
 use Rattle.rel_lang.specs.Lookup.{interfaces_of, units_of, modules_of, judgements_of}
 use Rattle.rel_lang.specs.Typed.{Signature}
+use Rattle.rel_lang.specs.View.{type_of, decl_of, class_of}
+use Rattle.rel_lang.specs.declared.bundle.Class.{Class}
 use Rattle.rel_flaws.specs.CodeView.{callees_seen}
 use Rattle.rel_flaws.specs.Entries.{find_entry}
 use Rattle.rel_flaws.specs.View.{variables_seen}
@@ -16,6 +20,7 @@ use Rattle.rel_flaws.specs.declared.scope.Seen.{Seen}
 use Rattle.rel_types.specs.Called.{SameCallees}
 use Rattle.rel_types.specs.Lookups.{SameLookups}
 use Rattle.rel_types.specs.Known.{BothAre}
+use Rattle.rel_types.specs.ByName.{class_names}
 use Rattle.rel_types.proofs.Declaring.{same_then, same_declared}
 
 -- ---- globals and callees
@@ -90,3 +95,20 @@ classes_both (OfUnit u ∷ is) js = classes_both is js
 classes_both (OfClient c ∷ is) js = classes_both is js
 classes_both (OfJudgement j ∷ is) js = classes_both is js
 classes_both (OfPair p ∷ is) js = classes_both is js
+
+pub class_names_both : (is js : List syntax.Item) → class_names (is ++ js) ≡ class_names is ++ class_names js
+class_names_both is js = ap (map _) (classes_both is js) ∙ map-append _ (class_items is) (class_items js)
+
+abbrev of_class : syntax.ClassItem → List ClassField
+of_class c = map (λ d. record { name = d.name; class = c.name; ty = d.ty }) c.fields
+
+fields_both : (cs ds : List syntax.ClassItem) → fields_of (cs ++ ds) ≡ fields_of cs ++ fields_of ds
+fields_both [] ds = refl
+fields_both (c ∷ cs) ds = ap (λ l. of_class c ++ l) (fields_both cs ds) ∙ sym (append_assoc (of_class c) (fields_of cs) (fields_of ds))
+
+pub class_fields_both : (is js : List syntax.Item) → fields_of (class_items (is ++ js)) ≡ fields_of (class_items is) ++ fields_of (class_items js)
+class_fields_both is js = ap fields_of (classes_both is js) ∙ fields_both (class_items is) (class_items js)
+
+-- the fields of one class
+pub fields_of_one : (c : Class) → map (λ d. record { name = d.name; class = c.name; ty = type_of d.ty }) c.fields ≡ fields_of (class_of c ∷ [])
+fields_of_one c = sym (append-nil _ ∙ map-map _ decl_of c.fields)

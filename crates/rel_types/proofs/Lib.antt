@@ -24,3 +24,4 @@ pub mod Owned
 pub mod Calling
 pub mod Knowing
 pub mod KnownItems
+pub mod KnownTables

@@ -43,9 +43,9 @@ abbrev pub AreNumbered : List Word → List (Word × ℕ) → Type 0
 AreNumbered names es = (x : Word) → find_entry x es ≡ place_in x names
 
 -- and so many names there are
-pub record AreCounted (names : List Word) (es : List (Word × ℕ)) (count : ℕ) : Type 0 where
+pub record AreCounted (names : List Word) (es : List (Word × ℕ)) (n : ℕ) : Type 0 where
   pub numbers : AreNumbered names es
-  pub count : count ≡ length names
+  pub count : n ≡ length names
 
 abbrev pub class_names : List Item → List Word
 class_names is = map (λ c. c.name) (class_items is)

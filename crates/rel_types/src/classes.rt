@@ -1,6 +1,6 @@
 //! The classes and the fields of a bundle by name, of each name the first.
 
-ghost use Rattle.std.specs.Prelude.{◌∷◌, [], ◌++◌, List as Listed, map, IfOk, OnOk};
+ghost use Rattle.std.specs.Prelude.{◌≡◌, ◌+◌, ◌∷◌, [], ◌++◌, List as Listed, map, IfOk, OnOk};
 ghost use Rattle.rel_lang.specs.State.{class_items, fields_of};
 ghost use Rattle.rel_lang.specs.Syntax.{Word};
 ghost use Rattle.rel_lang.specs.View.{item_of, class_of};
@@ -33,8 +33,9 @@ fn add_class<'a>(
 {
     match item {
         Item::Class(class) => {
+            let after = next(count)?;
             classes.insert(class.name.as_str(), count)?;
-            next(count)
+            Ok(after)
         }
         _ => Ok(count),
     }

@@ -5,7 +5,9 @@ ghost use Rattle.rel_lang.specs.View.{bundle_of, interface_of, unit_of, module_o
 ghost use Rattle.rel_types.specs.Known.{IsKnown, IsInterfaceSeen, IsUnitSeen, IsModuleSeen};
 
 use crate::bodies::{add_locals, add_owns};
+use crate::by_name::{interfaces_by_name, judgements_by_name, modules_by_name, units_by_name};
 use crate::called::add_procs;
+use crate::classes::{classes_by_name, fields_by_name};
 use crate::declarations::add_all;
 use crate::methods::{add_methods, method_names};
 use crate::own::Own;
@@ -108,5 +110,17 @@ pub(crate) fn module_seen<'a>(alloc: Global, item: &'a Module) -> Result<ModuleS
 pub(crate) fn known_of<'a>(alloc: Global, bundle: &'a Bundle) -> Result<Known<'a>, Memory>
     ensures { IfOk result (λ k. IsKnown (bundle_of bundle.now) k) }
 {
-    Err(Memory)
+    let classes = classes_by_name(alloc, &bundle.items)?;
+    let fields = fields_by_name(alloc, &bundle.items)?;
+    let interfaces = interfaces_by_name(alloc, &bundle.items)?;
+    let units = units_by_name(alloc, &bundle.items)?;
+    let modules = modules_by_name(alloc, &bundle.items)?;
+    let judgements = judgements_by_name(alloc, &bundle.items)?;
+    Ok(Known {
+        tables: Tables { classes, fields },
+        interfaces,
+        units,
+        modules,
+        judgements,
+    })
 }
