@@ -23,9 +23,9 @@ entry_with (e ∷ es) y v x =
     ≡ or_next (if bytes_eq x e.0 then Some e.1 else find_entry x es) (if bytes_eq x y then Some v else None)) [
       | true ↦ λ same. there ((bytes_eq-Decides y e.0).0 same)
       | false ↦ λ differs. elim (bytes_eq x e.0) as (λ c. (if c then Some e.1 else find_entry x (with_entry es y v)) ≡ or_next (if c then Some e.1 else find_entry x es) (if bytes_eq x y then Some v else None)) [
-          | true ↦ refl
-          | false ↦ entry_with es y v x
-        ]
+        | true ↦ refl
+        | false ↦ entry_with es y v x
+      ]
     ]) refl
   where
     there : y ≡ e.0 → find_entry x (e ∷ es) ≡ or_next (find_entry x (e ∷ es)) (if bytes_eq x y then Some v else None)

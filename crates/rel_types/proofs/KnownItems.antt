@@ -1,6 +1,5 @@
 -- What is known of items.
-use Rattle.std.proofs.Common.{◌≡◌, true, false, List, [], ◌∷◌, ◌++◌, map, Option, Some, None, option_map, if◌then◌else◌, refl, sym, ap, ◌∙◌, subst, append_assoc, append-nil}
-use Rattle.std.specs.Prelude.{bytes_eq}
+use Rattle.std.proofs.Common.{◌≡◌, true, List, [], ◌∷◌, ◌++◌, map, Option, Some, None, option_map, refl, sym, ap, ◌∙◌, subst, append_assoc, append-nil}
 use Rattle.std.proofs.lemmas.List.{map-append}
 use Rattle.std.proofs.lemmas.Simd.{map-map}
 use Rattle.rel_lang.specs.Syntax as syntax
@@ -13,7 +12,6 @@ use Rattle.rel_lang.specs.Typed.{Signature}
 use Rattle.rel_lang.specs.View.{type_of, decl_of, class_of}
 use Rattle.rel_lang.specs.declared.bundle.Class.{Class}
 use Rattle.rel_flaws.specs.CodeView.{callees_seen}
-use Rattle.rel_flaws.specs.Entries.{find_entry}
 use Rattle.rel_flaws.specs.View.{variables_seen}
 use Rattle.rel_flaws.specs.declared.code.Callee.{Callee}
 use Rattle.rel_flaws.specs.declared.scope.Seen.{Seen}

@@ -98,10 +98,7 @@ pub(crate) fn modules_by_name<'a>(
 }
 
 /// Adds the item where it is a judgement, unless its name is there.
-fn add_judgement<'a>(
-    judgements: &mut Index<'a, Subjects<'a>>,
-    item: &'a Item,
-) -> Result<(), Memory>
+fn add_judgement<'a>(judgements: &mut Index<'a, Subjects<'a>>, item: &'a Item) -> Result<(), Memory>
     ensures { OnOk result (Adds IsAbout (λ j. j.name) judgements.old judgements.new (judgements_of (item_of item.now ∷ []))) }
 {
     if let Item::Judge(judgement) = item {

@@ -24,11 +24,7 @@ fn next(count: u32) -> Result<u32, Memory>
 }
 
 /// Adds the item where it is a class, unless its name is there, with the number of classes that stand before. Gives that of those so far.
-fn add_class<'a>(
-    classes: &mut Index<'a, u32>,
-    count: u32,
-    item: &'a Item,
-) -> Result<u32, Memory>
+fn add_class<'a>(classes: &mut Index<'a, u32>, count: u32, item: &'a Item) -> Result<u32, Memory>
     ensures { IfOk result (λ n. (names : Listed Word) → AreCounted names classes.old count → AreCounted (names ++ class_names (item_of item.now ∷ [])) classes.new n) }
 {
     match item {

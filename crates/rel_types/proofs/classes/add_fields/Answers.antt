@@ -1,4 +1,4 @@
-use Rattle.std.proofs.Common.{sym, ap₂, subst}
+use Rattle.std.proofs.Common.{ap₂, subst}
 use Rattle.rel_lang.specs.State.{ClassField}
 use Rattle.rel_lang.specs.View.{type_of}
 use Rattle.rel_types.specs.ByName.{Adds, IsFieldSeen}

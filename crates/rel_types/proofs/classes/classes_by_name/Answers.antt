@@ -1,4 +1,4 @@
-use Rattle.std.proofs.Common.{◌∷◌, [], ◌++◌, map, take, refl, ap, ◌∙◌, subst}
+use Rattle.std.proofs.Common.{map, take, refl, ap, ◌∙◌, subst}
 use Rattle.std.proofs.lemmas.List.{take_all}
 use Rattle.rel_lang.specs.View.{item_of}
 use Rattle.rel_flaws.specs.Entries.{find_entry}
