@@ -26,3 +26,6 @@ pub mod SameTables
 pub mod SameItems
 pub mod ItemLoop
 pub mod Numbering
+pub mod Knowing
+pub mod KnownItems
+pub mod KnownTables

@@ -6,3 +6,4 @@ pub mod OwnView
 pub mod Known
 pub mod Numbers
 pub mod Told
+pub mod ByName

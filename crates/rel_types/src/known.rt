@@ -4,6 +4,12 @@ ghost use Rattle.std.specs.Prelude.{◌≡◌, IfOk, option_map};
 ghost use Rattle.rel_lang.specs.View.{bundle_of, interface_of, unit_of, module_of};
 ghost use Rattle.rel_types.specs.Known.{IsKnown, IsInterfaceSeen, IsUnitSeen, IsModuleSeen};
 
+use crate::bodies::{add_locals, add_owns};
+use crate::by_name::{interfaces_by_name, judgements_by_name, modules_by_name, units_by_name};
+use crate::called::add_procs;
+use crate::classes::{classes_by_name, fields_by_name};
+use crate::declarations::add_all;
+use crate::methods::{add_methods, method_names};
 use crate::own::Own;
 use rel_flaws::code::Callee;
 use rel_flaws::index::Index;
@@ -48,30 +54,73 @@ pub(crate) struct Known<'a> {
     pub judgements: Index<'a, Subjects<'a>>,
 }
 
+/// What others need to know of an interface.
 pub(crate) fn interface_seen<'a>(
     alloc: Global,
     interface: &'a Interface,
 ) -> Result<InterfaceSeen<'a>, Memory>
     ensures { IfOk result (λ s. IsInterfaceSeen (interface_of interface.now) s) }
 {
-    Err(Memory)
+    let mut globals = Index::new(alloc);
+    add_all(&mut globals, &interface.globals, true)?;
+    let mut methods = Index::new(alloc);
+    add_methods(&mut methods, &interface.methods)?;
+    let names = method_names(alloc, &interface.methods)?;
+    Ok(InterfaceSeen {
+        globals,
+        methods,
+        names,
+    })
 }
 
+/// What others need to know of a unit.
 pub(crate) fn unit_seen<'a>(alloc: Global, unit: &'a UnitItem) -> Result<UnitSeen<'a>, Memory>
     ensures { IfOk result (λ s. IsUnitSeen (unit_of unit.now) s) }
 {
-    Err(Memory)
+    let mut globals = Index::new(alloc);
+    add_all(&mut globals, &unit.globals, true)?;
+    let mut procs = Index::new(alloc);
+    add_procs(&mut procs, &unit.procs)?;
+    let mut bodies = Index::new(alloc);
+    add_owns(&mut bodies, &unit.procs)?;
+    Ok(UnitSeen {
+        globals,
+        procs,
+        bodies,
+    })
 }
 
+/// What others need to know of a module.
 pub(crate) fn module_seen<'a>(alloc: Global, item: &'a Module) -> Result<ModuleSeen<'a>, Memory>
     ensures { IfOk result (λ s. IsModuleSeen (module_of item.now) s) }
 {
-    Err(Memory)
+    let mut globals = Index::new(alloc);
+    add_all(&mut globals, &item.globals, true)?;
+    let mut bodies = Index::new(alloc);
+    add_locals(&mut bodies, &item.methods)?;
+    Ok(ModuleSeen {
+        interface: item.interface.as_str(),
+        globals,
+        init: &item.init.locals,
+        bodies,
+    })
 }
 
 /// What the bundle has by name.
 pub(crate) fn known_of<'a>(alloc: Global, bundle: &'a Bundle) -> Result<Known<'a>, Memory>
     ensures { IfOk result (λ k. IsKnown (bundle_of bundle.now) k) }
 {
-    Err(Memory)
+    let classes = classes_by_name(alloc, &bundle.items)?;
+    let fields = fields_by_name(alloc, &bundle.items)?;
+    let interfaces = interfaces_by_name(alloc, &bundle.items)?;
+    let units = units_by_name(alloc, &bundle.items)?;
+    let modules = modules_by_name(alloc, &bundle.items)?;
+    let judgements = judgements_by_name(alloc, &bundle.items)?;
+    Ok(Known {
+        tables: Tables { classes, fields },
+        interfaces,
+        units,
+        modules,
+        judgements,
+    })
 }

@@ -2,8 +2,11 @@
 #![tactic(auto)]
 
 mod around;
+mod bodies;
 mod bundles;
+mod by_name;
 mod called;
+mod classes;
 mod clients;
 mod declarations;
 mod fault;
@@ -13,6 +16,7 @@ mod judgements;
 mod known;
 pub mod laws;
 mod members;
+mod methods;
 mod modules;
 mod names;
 mod numbers;
