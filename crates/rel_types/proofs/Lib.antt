@@ -22,3 +22,8 @@ pub mod Settings
 pub mod Gathered
 pub mod Owned
 pub mod Calling
+pub mod SameTables
+pub mod SameItems
+pub mod Both
+pub mod SameScopes
+pub mod SameTables

@@ -4,3 +4,4 @@ pub mod Lookups
 pub mod Called
 pub mod OwnView
 pub mod Known
+pub mod SubjectView
