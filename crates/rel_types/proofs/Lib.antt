@@ -26,4 +26,3 @@ pub mod SameTables
 pub mod SameItems
 pub mod Both
 pub mod SameScopes
-pub mod SameTables
