@@ -29,3 +29,5 @@ pub mod Numbering
 pub mod Knowing
 pub mod KnownItems
 pub mod KnownTables
+pub mod Both
+pub mod SameScopes

@@ -7,3 +7,4 @@ pub mod Known
 pub mod Numbers
 pub mod Told
 pub mod ByName
+pub mod SubjectView

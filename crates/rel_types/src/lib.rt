@@ -1,6 +1,7 @@
 //! Types a bundle, or says which fault it has first and where.
 #![tactic(auto)]
 
+mod aligned;
 mod around;
 mod bodies;
 mod bundles;
