@@ -22,3 +22,4 @@ pub mod Settings
 pub mod Gathered
 pub mod Owned
 pub mod Calling
+pub mod Layered

@@ -1,11 +1,12 @@
 //! Names that stand before, and those that are declared again.
 
 ghost use Rattle.std.specs.Prelude.{◌≡◌, ◌++◌, ◌∷◌, [], map, OnOk, IfOk};
+ghost use Rattle.rel_lang.specs.Typed.{names_of};
 ghost use Rattle.rel_lang.specs.View.{decl_of};
 ghost use Rattle.rel_flaws.specs.Inference.{is_among};
 ghost use Rattle.rel_types.specs.Items.{repeats, declared_names};
 ghost use Rattle.rel_types.specs.Lookups.{SameNames, names_in};
-ghost use Rattle.rel_types.specs.OwnView.{names_before};
+ghost use Rattle.rel_types.specs.OwnView.{globals_in, names_before};
 
 use crate::around::Globals;
 use rel_flaws::index::Index;
@@ -30,14 +31,19 @@ pub(crate) fn add_name<'a>(names: &mut Index<'a, ()>, name: &'a str) -> Result<b
     Ok(was_there)
 }
 
+/// Whether a global has the name.
+fn is_of_global(globals: Globals<'_, '_>, name: &str) -> bool
+    ensures { result ≡ is_among name.now (names_of (globals_in globals.entry)) }
+{
+    globals.interface.has(name) | globals.own.has(name)
+}
+
 /// Whether the name may not be declared, where some may not: it is `result`, or that of a global.
 fn is_before(before: Option<Globals<'_, '_>>, name: &str) -> bool
     ensures { result ≡ is_among name.now (names_before before.entry) }
 {
     match before {
-        Some(globals) => name == "result"
-            || globals.interface.get(name).is_some()
-            || globals.own.get(name).is_some(),
+        Some(globals) => name == "result" || is_of_global(globals, name),
         None => false,
     }
 }
