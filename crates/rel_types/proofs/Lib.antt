@@ -23,3 +23,4 @@ pub mod Gathered
 pub mod Owned
 pub mod Calling
 pub mod Layered
+pub mod SameMembers
