@@ -1,5 +1,5 @@
 -- What the layers of a body's variables give.
-use Rattle.std.proofs.Common.{◌≡◌, true, false, [], ◌++◌, sym, subst, append-nil}
+use Rattle.std.proofs.Common.{◌≡◌, true, [], ◌++◌, sym, subst, append-nil}
 use Rattle.rel_lang.specs.State.{Scope, ByCall}
 use Rattle.rel_lang.specs.Scope.{Setting, declared, result_variable, globals_of, parameters_of, pre_scope, post_scope, body_scope}
 use Rattle.rel_types.specs.Lookups.{SameLookups}

@@ -1,5 +1,5 @@
 -- What a body has of its own, and the names that it may not have.
-use Rattle.std.proofs.Common.{◌≡◌, Bool, ◌||◌, List, [], ◌++◌, map, sym, ap, ap₂, ◌∙◌, subst, append-nil, refl}
+use Rattle.std.proofs.Common.{◌≡◌, Bool, ◌||◌, List, [], ◌++◌, sym, ap, ap₂, ◌∙◌, subst, append-nil, refl}
 use Rattle.std.specs.Prelude.{is_some}
 use Rattle.std.proofs.lemmas.List.{map-append}
 use Rattle.rel_lang.specs.Syntax.{Word, Decl}

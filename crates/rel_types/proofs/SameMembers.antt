@@ -7,7 +7,6 @@ use Rattle.rel_lang.specs.Scope.{Setting, result_name, declared, result_variable
 use Rattle.rel_lang.specs.Typed.{Signature}
 use Rattle.rel_flaws.specs.Flaws.{Flaws, flawless, either, Pass, Fault, fault_at, first_of}
 use Rattle.rel_flaws.specs.Inference.{names_unknown_class, have_unknown_types}
-use Rattle.rel_flaws.specs.Code.{Code}
 use Rattle.rel_types.specs.Items.{repeats, declared_names, seen_by_members, flaws_of_effect, flaws_of_globals, flaws_of_head, clauses_fault, proc_fault, module_body_fault, sig_fault, first_named}
 use Rattle.rel_types.specs.Lookups.{SameLookups, SameNames, SameCode, SameSettings}
 use Rattle.rel_types.specs.Called.{SameCallees}
