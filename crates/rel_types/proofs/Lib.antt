@@ -24,3 +24,4 @@ pub mod Owned
 pub mod Calling
 pub mod Layered
 pub mod SameMembers
+pub mod Heads

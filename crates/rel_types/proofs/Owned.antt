@@ -6,7 +6,7 @@ use Rattle.rel_lang.specs.Syntax.{Word, Decl}
 use Rattle.rel_lang.specs.State.{Scope}
 use Rattle.rel_lang.specs.Typed.{names_of}
 use Rattle.rel_flaws.specs.Entries.{find_entry}
-use Rattle.rel_flaws.specs.Inference.{is_among}
+use Rattle.rel_flaws.specs.Inference.{is_among, is_in_scope}
 use Rattle.rel_flaws.specs.View.{variables_seen}
 use Rattle.rel_flaws.specs.declared.scope.Seen.{Seen}
 use Rattle.rel_types.specs.Items.{repeats, declared_names}
@@ -30,7 +30,8 @@ pub alone : (after before extra base : Scope) → before ≡ [] → SameLookups 
 alone after before extra base is h k = same_then after extra base (subst (λ b. SameLookups after (b ++ extra)) is h) k
 
 -- one of the globals has the name
-pub of_global : (x : Word) (es fs : List (Word × Seen)) → (is_some (find_entry x es) || is_some (find_entry x fs)) ≡ is_among x (names_of (variables_seen es ++ variables_seen fs))
+pub of_global : (x : Word) (es fs : List (Word × Seen)) → (is_some (find_entry x es) || is_some (find_entry x fs)) ≡ is_in_scope x (variables_seen es ++ variables_seen fs)
 of_global x es fs =
     ap₂ (λ a b. a || b) (seen_in x es ∙ named_in (variables_seen es) x) (seen_in x fs ∙ named_in (variables_seen fs) x)
-    ∙ sym (ap (is_among x) (map-append _ (variables_seen es) (variables_seen fs)) ∙ among_both x (names_of (variables_seen es)) (names_of (variables_seen fs)))
+    ∙ sym (named_in (variables_seen es ++ variables_seen fs) x ∙ ap (is_among x) (map-append _ (variables_seen es) (variables_seen fs))
+    ∙ among_both x (names_of (variables_seen es)) (names_of (variables_seen fs)))

@@ -1,9 +1,8 @@
 //! Names that stand before, and those that are declared again.
 
 ghost use Rattle.std.specs.Prelude.{◌≡◌, ◌++◌, ◌∷◌, [], map, OnOk, IfOk};
-ghost use Rattle.rel_lang.specs.Typed.{names_of};
 ghost use Rattle.rel_lang.specs.View.{decl_of};
-ghost use Rattle.rel_flaws.specs.Inference.{is_among};
+ghost use Rattle.rel_flaws.specs.Inference.{is_among, is_in_scope};
 ghost use Rattle.rel_types.specs.Items.{repeats, declared_names};
 ghost use Rattle.rel_types.specs.Lookups.{SameNames, names_in};
 ghost use Rattle.rel_types.specs.OwnView.{globals_in, names_before};
@@ -32,18 +31,19 @@ pub(crate) fn add_name<'a>(names: &mut Index<'a, ()>, name: &'a str) -> Result<b
 }
 
 /// Whether a global has the name.
-fn is_of_global(globals: Globals<'_, '_>, name: &str) -> bool
-    ensures { result ≡ is_among name.now (names_of (globals_in globals.entry)) }
+pub(crate) fn is_global(globals: Globals<'_, '_>, name: &str) -> bool
+    ensures { result ≡ is_in_scope name.now (globals_in globals.entry) }
 {
     globals.interface.has(name) | globals.own.has(name)
 }
 
 /// Whether the name may not be declared, where some may not: it is `result`, or that of a global.
+#[tactic(auto, using(crate::proofs::Repeats::named_in))]
 fn is_before(before: Option<Globals<'_, '_>>, name: &str) -> bool
     ensures { result ≡ is_among name.now (names_before before.entry) }
 {
     match before {
-        Some(globals) => name == "result" || is_of_global(globals, name),
+        Some(globals) => name == "result" || is_global(globals, name),
         None => false,
     }
 }

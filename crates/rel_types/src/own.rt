@@ -1,6 +1,6 @@
 //! What a body has of its own.
 
-ghost use Rattle.std.specs.Prelude.{◌≡◌, ◌++◌, true, false, Some, OnOk, IfOk, map, option_map};
+ghost use Rattle.std.specs.Prelude.{◌≡◌, [], ◌++◌, true, false, Some, OnOk, IfOk, map, option_map};
 ghost use Rattle.rel_lang.specs.Scope.{globals_of, declared, result_variable};
 ghost use Rattle.rel_lang.specs.State.{ByCall};
 ghost use Rattle.rel_lang.specs.View.{decl_of, type_of};
@@ -16,7 +16,7 @@ use crate::names::add_names;
 use rel_flaws::index::Index;
 use rel_flaws::scope::{Seen, Tables};
 use rel_flaws::types::Type;
-use rel_lang::bundle::{Decl, Proc};
+use rel_lang::bundle::{Decl, Proc, Sig};
 use rel_list::{List, Memory};
 use std::alloc::Global;
 
@@ -47,6 +47,19 @@ impl<'a> Own<'a> {
             params: Some(&proc.params),
             locals: Some(&proc.body.locals),
             result: Some(Type::of(&proc.result)),
+        }
+    }
+
+    /// Of a method, which has no locals but in a module.
+    pub fn of_method(method: &'a Sig) -> Own<'a>
+        ensures params { decls_in result.params ≡ map decl_of method.now.params }
+        ensures locals { decls_in result.locals ≡ [] }
+        ensures result { type_in result ≡ Some (type_of method.now.result) }
+    {
+        Own {
+            params: Some(&method.params),
+            locals: None,
+            result: Some(Type::of(&method.result)),
         }
     }
 
