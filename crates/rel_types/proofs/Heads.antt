@@ -3,6 +3,7 @@ use Rattle.std.proofs.Common.{◌≡◌, Bool, ◌||◌, List, ◌++◌, Option,
 use Rattle.std.proofs.lemmas.List.Folds.{list_any-append}
 use Rattle.rel_lang.specs.Syntax.{Ty, Decl, Clause}
 use Rattle.rel_lang.specs.State.{Tables, Scope}
+use Rattle.rel_lang.specs.Scope.{Setting}
 use Rattle.rel_flaws.specs.Flaws.{Flaws, flawless, Pass, Fault, first_of}
 use Rattle.rel_flaws.specs.Inference.{names_unknown_class, have_unknown_types}
 use Rattle.rel_flaws.specs.View.{fault_of}
@@ -37,3 +38,11 @@ seen_same sc sd se e h = subst (λ s. SameLookups s se) (sym e) h
 
 pub clause_seen : (tables : Tables) (pass : Pass) (old : Bool) (sc sd se : Scope) (c : Clause) → sc ≡ sd → SameLookups sd se → clause_fault tables pass old sc c ≡ clause_fault tables pass old se c
 clause_seen tables pass old sc sd se c e h = clause_same tables pass old sc se (seen_same sc sd se e h) c
+
+-- ---- settings
+
+pub same_setting : (sc sd : Scope) (ps ps' ls ls' : List Decl) (o o' : Option Ty) → ps ≡ ps' → ls ≡ ls' → o ≡ o'
+    → ◌≡◌ {A = Setting} (record { interface = sc; own = sd; parameters = ps; locals = ls; result = o }) (record { interface = sc; own = sd; parameters = ps'; locals = ls'; result = o' })
+same_setting sc sd ps ps' ls ls' o o' h k l =
+    ap₂ {C = Setting} (λ qs ms. record { interface = sc; own = sd; parameters = qs; locals = ms; result = o }) h k
+    ∙ ap {B = Setting} (λ r. record { interface = sc; own = sd; parameters = ps'; locals = ls'; result = r }) l

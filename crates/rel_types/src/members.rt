@@ -1,6 +1,6 @@
 //! The first fault of a procedure, a method or a module's body.
 
-ghost use Rattle.std.specs.Prelude.{◌≡◌, map, option_map, IfOk};
+ghost use Rattle.std.specs.Prelude.{◌≡◌, true, map, option_map, IfOk};
 ghost use Rattle.rel_lang.specs.Scope.{body_scope};
 ghost use Rattle.rel_lang.specs.State as state;
 ghost use Rattle.rel_lang.specs.View.{effect_of, clause_of, spec_of, proc_of, sig_of, body_of, block_of, type_of};
@@ -61,7 +61,8 @@ pub(crate) fn clause_fault_in<'a>(
         → option_map fault_of f ≡ items.clause_fault (tables_seen tables.now) (pass_of pass) old sc (clause_of clause.now)) }
 {
     let mut scope = Scope::new(alloc, layers);
-    clause_fault(tables, pass, old, &mut scope, clause)
+    let fault = clause_fault(tables, pass, old, &mut scope, clause)?;
+    Ok(fault)
 }
 
 /// The clauses of a specification.
@@ -78,7 +79,11 @@ pub(crate) fn clauses_fault<'a>(
 {
     match clause_fault_in(alloc, tables, pass, false, globals.pre(layers), &spec.needs)? {
         Some(fault) => Ok(Some(fault)),
-        None => clause_fault_in(alloc, tables, pass, true, globals.post(layers), &spec.gives),
+        None => {
+            let post = globals.post(layers);
+            let fault = clause_fault_in(alloc, tables, pass, true, post, &spec.gives)?;
+            Ok(fault)
+        }
     }
 }
 
@@ -102,7 +107,8 @@ fn commands_fault<'a>(
         methods: around.methods,
         may_call,
     };
-    block_fault(tables, pass, &mut code, commands)
+    let fault = block_fault(tables, pass, &mut code, commands)?;
+    Ok(fault)
 }
 
 /// The clauses and the commands of a procedure.
@@ -159,7 +165,10 @@ pub(crate) fn proc_fault<'a>(
     )?;
     match more.either(head).fault(pass, proc.at) {
         Some(fault) => Ok(Some(fault)),
-        None => parts_fault(alloc, tables, pass, around, &layers, proc),
+        None => {
+            let fault = parts_fault(alloc, tables, pass, around, &layers, proc)?;
+            Ok(fault)
+        }
     }
 }
 
@@ -181,7 +190,10 @@ pub(crate) fn method_fault<'a>(
     let head = flaws_of_head(alloc, tables, globals, own, &layers, writes, &method.result)?;
     match more.either(head).fault(pass, method.at) {
         Some(fault) => Ok(Some(fault)),
-        None => clauses_fault(alloc, tables, pass, globals, &layers, &method.spec),
+        None => {
+            let fault = clauses_fault(alloc, tables, pass, globals, &layers, &method.spec)?;
+            Ok(fault)
+        }
     }
 }
 
@@ -205,6 +217,10 @@ pub(crate) fn module_body_fault<'a>(
     };
     match flaws.fault(pass, body.at) {
         Some(fault) => Ok(Some(fault)),
-        None => commands_fault(alloc, tables, pass, around, &layers, false, &body.commands),
+        None => {
+            let commands = &body.commands;
+            let fault = commands_fault(alloc, tables, pass, around, &layers, false, commands)?;
+            Ok(fault)
+        }
     }
 }
