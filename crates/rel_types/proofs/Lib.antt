@@ -31,3 +31,6 @@ pub mod KnownItems
 pub mod KnownTables
 pub mod Both
 pub mod SameScopes
+pub mod Layered
+pub mod SameMembers
+pub mod Heads

@@ -1,15 +1,18 @@
--- What a body has of its own: its names and its variables.
-use Rattle.std.proofs.Common.{◌≡◌, Bool, true, false, ◌||◌, List, [], ◌++◌, Option, refl, sym, ap, ap₂, ◌∙◌, subst, append_assoc, append-nil}
+-- What a body has of its own, and the names that it may not have.
+use Rattle.std.proofs.Common.{◌≡◌, Bool, ◌||◌, List, [], ◌++◌, sym, ap, ap₂, ◌∙◌, subst, append-nil, refl}
+use Rattle.std.specs.Prelude.{is_some}
 use Rattle.std.proofs.lemmas.List.{map-append}
-use Rattle.rel_lang.specs.Syntax.{Word, Ty, Decl}
-use Rattle.rel_lang.specs.State.{Scope, ByCall, ByQuantifier}
-use Rattle.rel_lang.specs.Scope.{declared, result_variable}
-use Rattle.rel_flaws.specs.Inference.{is_among}
+use Rattle.rel_lang.specs.Syntax.{Word, Decl}
+use Rattle.rel_lang.specs.State.{Scope}
+use Rattle.rel_lang.specs.Typed.{names_of}
+use Rattle.rel_flaws.specs.Entries.{find_entry}
+use Rattle.rel_flaws.specs.Inference.{is_among, is_in_scope}
+use Rattle.rel_flaws.specs.View.{variables_seen}
+use Rattle.rel_flaws.specs.declared.scope.Seen.{Seen}
 use Rattle.rel_types.specs.Items.{repeats, declared_names}
 use Rattle.rel_types.specs.Lookups.{SameLookups, SameNames}
-use Rattle.rel_types.proofs.Lookups.{same_after}
-use Rattle.rel_types.proofs.Declaring.{same_self, same_then, same_declared}
-use Rattle.rel_types.proofs.Repeats.{same_names_after, repeats_same, repeats_both}
+use Rattle.rel_types.proofs.Declaring.{same_then, seen_in}
+use Rattle.rel_types.proofs.Repeats.{among_both, named_in, same_names_after, repeats_same, repeats_both}
 
 -- parameters, then locals
 pub repeated_own : (before none own : List Word) (ps ls : List Decl) (a b : Bool) → none ≡ []
@@ -22,16 +25,13 @@ repeated_own before none own ps ls a b is_none first added second =
     (second ∙ repeats_same (own ++ before) (names ++ before) (same_names_after own before names before of_own (λ x. refl)) (declared_names ls))
     ∙ sym (ap (repeats before) (map-append _ ps ls) ∙ repeats_both before names (declared_names ls))
 
--- parameters, locals, then the result
-pub seen_own : (first second third : Scope) (ps ls : List Decl) (o : Option Ty) → SameLookups first (declared ByQuantifier false ps)
-    → SameLookups second (first ++ declared ByQuantifier true ls) → SameLookups third (second ++ result_variable o)
-    → SameLookups third (declared ByCall false ps ++ (declared ByCall true ls ++ result_variable o))
-seen_own first second third ps ls o h k l =
-    let params : Scope = declared ByCall false ps in
-    let locals : Scope = declared ByCall true ls in
-    let out : Scope = result_variable o in
-    let a : SameLookups first params = same_then first (declared ByQuantifier false ps) params h (same_declared ByQuantifier ByCall false ps) in
-    let b : SameLookups second (params ++ locals) = same_then second (first ++ declared ByQuantifier true ls) (params ++ locals) k
-    (same_after first (declared ByQuantifier true ls) params locals a (same_declared ByQuantifier ByCall true ls)) in
-    subst (SameLookups third) (append_assoc params locals out)
-    (same_then third (second ++ out) ((params ++ locals) ++ out) l (same_after second out (params ++ locals) out b (same_self out)))
+-- declared where nothing else is
+pub alone : (after before extra base : Scope) → before ≡ [] → SameLookups after (before ++ extra) → SameLookups extra base → SameLookups after base
+alone after before extra base is h k = same_then after extra base (subst (λ b. SameLookups after (b ++ extra)) is h) k
+
+-- one of the globals has the name
+pub of_global : (x : Word) (es fs : List (Word × Seen)) → (is_some (find_entry x es) || is_some (find_entry x fs)) ≡ is_in_scope x (variables_seen es ++ variables_seen fs)
+of_global x es fs =
+    ap₂ (λ a b. a || b) (seen_in x es ∙ named_in (variables_seen es) x) (seen_in x fs ∙ named_in (variables_seen fs) x)
+    ∙ sym (named_in (variables_seen es ++ variables_seen fs) x ∙ ap (is_among x) (map-append _ (variables_seen es) (variables_seen fs))
+    ∙ among_both x (names_of (variables_seen es)) (names_of (variables_seen fs)))

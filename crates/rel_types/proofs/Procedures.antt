@@ -6,7 +6,7 @@ use Rattle.rel_lang.specs.Syntax.{Word, Ty, Int, Rgn, Class, Decl, Place, Effect
 use Rattle.rel_lang.specs.State.{Tables, Owner, Scope, find_variable, find_field, ByCall}
 use Rattle.rel_lang.specs.Scope.{declared, Setting, result_name, result_variable, globals_of, pre_scope, post_scope, body_scope}
 use Rattle.rel_lang.specs.Typed.{AreDistinct, names_of, Signature, IsDeclaredType, HaveTypes, IsTypedFormula, IsTypedRel, IsTypedPlace, IsTypedEffect, AreTypedWrites, IsTypedProc}
-use Rattle.rel_flaws.specs.Flaws.{Flaws, flawless, either, Pass, ForTwice, Fault, fault_at, first_of}
+use Rattle.rel_flaws.specs.Flaws.{Flaws, flawless, either, Pass, Fault, fault_at, first_of}
 use Rattle.rel_flaws.specs.Inference.{is_field, is_class, names_unknown_class, have_unknown_types, flaws_of_region}
 use Rattle.rel_flaws.specs.Code.{unknown_where, block_fault}
 use Rattle.rel_types.specs.Items.{repeats, declared_names, seen_by_members, flaws_of_place, flaws_of_effect, flaws_of_all, clause_fault, rel_clause_fault, clauses_fault, flaws_of_head, proc_fault}

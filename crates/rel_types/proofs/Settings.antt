@@ -1,5 +1,5 @@
 -- What the scopes of a setting give, and what is said of clauses, places and effects.
-use Rattle.std.proofs.Common.{◌≡◌, Bool, not, List, [], ◌∷◌, ◌++◌, map, refl, sym, ap, ap₂, subst, append_assoc}
+use Rattle.std.proofs.Common.{◌≡◌, Bool, not, List, [], ◌∷◌, ◌++◌, refl, sym, ap, ap₂, subst, append_assoc}
 use Rattle.rel_lang.specs.Syntax.{Decl, Place, Effect, Global, Locations, Clause, RelClause}
 use Rattle.rel_lang.specs.State.{Tables, Owner, ByQuantifier, Scope}
 use Rattle.rel_lang.specs.Scope.{Setting, declared, result_variable, globals_of, parameters_of, own_variables, pre_scope, post_scope, body_scope}

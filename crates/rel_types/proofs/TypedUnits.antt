@@ -6,7 +6,7 @@ use Rattle.rel_lang.specs.Syntax.{Word, Decl, Proc, Sig, ClassItem, Interface, U
 use Rattle.rel_lang.specs.State.{Tables, Scope, ByInterface, ByUnit}
 use Rattle.rel_lang.specs.Scope.{result_name, interface_globals, unit_globals, globals_of, unit_setting, signature_setting}
 use Rattle.rel_lang.specs.Typed.{AreDistinct, names_of, signature_of_proc, HaveTypes, IsTypedMethod, IsTypedInterface, IsTypedUnit, IsTypedProc}
-use Rattle.rel_flaws.specs.Flaws.{Flaws, flawless, either, Pass, ForTwice, Fault, first_of}
+use Rattle.rel_flaws.specs.Flaws.{Flaws, flawless, either, Pass, Fault, first_of}
 use Rattle.rel_flaws.specs.Inference.{is_among, have_unknown_types}
 use Rattle.rel_types.specs.Items.{repeats, declared_names, seen_by_members, twice_where, first_named, flaws_of_place, flaws_of_effect, flaws_of_all, flaws_of_globals, clause_fault, clauses_fault, flaws_of_head, proc_fault, class_fault, method_fault, interface_fault, unit_fault}
 use Rattle.rel_types.proofs.Clean.{IsClean, HasNoFault, no_fault_in_both, no_fault_at, clean_both}

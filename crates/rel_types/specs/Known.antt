@@ -1,7 +1,7 @@
 -- What is known of the items that others name.
 use Rattle.std.specs.Prelude.{◌≡◌, ℕ, List, map, Option, Some, None, option_map}
 use denote.Ref.{Bor}
-use Rattle.rel_lang.specs.Syntax.{Word, Body, Proc, Sig, Interface, Module, UnitItem, Judgement, Bundle}
+use Rattle.rel_lang.specs.Syntax.{Word, Body, Proc, Interface, Module, UnitItem, Judgement, Bundle}
 use Rattle.rel_lang.specs.State.{tables_of, class_number}
 use Rattle.rel_lang.specs.Scope.{interface_globals, module_globals, unit_globals}
 use Rattle.rel_lang.specs.Lookup.{find_interface, find_module, find_unit, find_proc, find_body, find_judgement, judgements_of}

@@ -8,10 +8,10 @@ ghost use Rattle.rel_flaws.specs.Inference as inference;
 ghost use Rattle.rel_types.specs.Items as items;
 ghost use Rattle.rel_types.specs.Lookups.{SameLookups, SameNames, names_in};
 ghost use Rattle.rel_types.specs.OwnView.{globals_in};
-ghost use Rattle.rel_flaws.specs.View.{scope_of, globals_seen, tables_seen, flaws_of, fault_of, pass_of};
+ghost use Rattle.rel_flaws.specs.View.{scope_of, tables_seen, flaws_of, fault_of, pass_of};
 
 use crate::around::Globals;
-use crate::names::add_names;
+use crate::names::{add_names, is_global};
 use rel_flaws::formula::flaws_of_formula;
 use rel_flaws::index::Index;
 use rel_flaws::kind::{Fault, Flaws, Pass};
@@ -52,19 +52,18 @@ fn flaws_of_place<'a>(tables: &Tables<'a>, scope: &Scope<'a, '_>, place: &Place)
     field.either(flaws_of_region(tables, scope, &place.region))
 }
 
-fn is_global(scope: &Scope<'_, '_>, name: &str) -> bool
-    ensures { result ≡ inference.is_in_scope name.now (globals_seen scope.now.layers) }
-{
-    scope.layers.global(name).is_some()
-}
-
-/// A listed global is one of the scope's globals; a region is read in the scope.
-fn flaws_of_effect<'a>(tables: &Tables<'a>, scope: &Scope<'a, '_>, effect: &Effect) -> Flaws
-    ensures { flaws_of result ≡ items.flaws_of_effect (tables_seen tables.now) (globals_seen scope.now.layers) (scope_of scope.now) (effect_of effect.now) }
+/// A listed global is one of these; a region is read in the scope.
+fn flaws_of_effect<'a>(
+    tables: &Tables<'a>,
+    globals: Globals<'a, '_>,
+    scope: &Scope<'a, '_>,
+    effect: &Effect,
+) -> Flaws
+    ensures { flaws_of result ≡ items.flaws_of_effect (tables_seen tables.now) (globals_in globals.entry) (scope_of scope.now) (effect_of effect.now) }
 {
     match effect {
         Effect::Var(x) => Flaws {
-            unknown: !is_global(scope, x.as_str()),
+            unknown: !is_global(globals, x.as_str()),
             ..Flaws::none()
         },
         Effect::At(place) => flaws_of_place(tables, scope, place),
@@ -74,15 +73,16 @@ fn flaws_of_effect<'a>(tables: &Tables<'a>, scope: &Scope<'a, '_>, effect: &Effe
 /// The effects of a writes list.
 pub(crate) fn flaws_of_effects<'a>(
     tables: &Tables<'a>,
+    globals: Globals<'a, '_>,
     scope: &Scope<'a, '_>,
     effects: &List<Effect>,
 ) -> Flaws
     ensures { flaws_of result ≡ items.flaws_of_all (tables_seen tables.now)
-        (items.flaws_of_effect (tables_seen tables.now) (globals_seen scope.now.layers) (scope_of scope.now)) (map effect_of effects.now) }
+        (items.flaws_of_effect (tables_seen tables.now) (globals_in globals.entry) (scope_of scope.now)) (map effect_of effects.now) }
 {
     let mut flaws = Flaws::none();
     for effect in effects.as_slice() {
-        flaws = flaws.either(flaws_of_effect(tables, scope, effect));
+        flaws = flaws.either(flaws_of_effect(tables, globals, scope, effect));
     }
     flaws
 }
@@ -97,7 +97,13 @@ pub(crate) fn flaws_of_globals<'a>(
     ensures { IfOk result (λ f. (sc : state.Scope) → SameLookups (globals_in before.entry) sc
         → flaws_of f ≡ items.flaws_of_globals (tables_seen tables.now) sc (map decl_of decls.now)) }
 {
-    Err(Memory)
+    let mut names = Index::new(alloc);
+    let twice = add_names(Some(before), &mut names, decls)?;
+    Ok(Flaws {
+        twice,
+        unknown: have_unknown_types(tables, decls),
+        ..Flaws::none()
+    })
 }
 
 /// The fields of a class, with the names of the fields that stand before, to which they are added.

@@ -2,10 +2,10 @@
 
 ghost use Rattle.std.specs.Prelude.{◌≡◌, ◌++◌, ◌∷◌, [], map, OnOk, IfOk};
 ghost use Rattle.rel_lang.specs.View.{decl_of};
-ghost use Rattle.rel_flaws.specs.Inference.{is_among};
+ghost use Rattle.rel_flaws.specs.Inference.{is_among, is_in_scope};
 ghost use Rattle.rel_types.specs.Items.{repeats, declared_names};
 ghost use Rattle.rel_types.specs.Lookups.{SameNames, names_in};
-ghost use Rattle.rel_types.specs.OwnView.{names_before};
+ghost use Rattle.rel_types.specs.OwnView.{globals_in, names_before};
 
 use crate::around::Globals;
 use rel_flaws::index::Index;
@@ -30,14 +30,20 @@ pub(crate) fn add_name<'a>(names: &mut Index<'a, ()>, name: &'a str) -> Result<b
     Ok(was_there)
 }
 
+/// Whether a global has the name.
+pub(crate) fn is_global(globals: Globals<'_, '_>, name: &str) -> bool
+    ensures { result ≡ is_in_scope name.now (globals_in globals.entry) }
+{
+    globals.interface.has(name) | globals.own.has(name)
+}
+
 /// Whether the name may not be declared, where some may not: it is `result`, or that of a global.
+#[tactic(auto, using(crate::proofs::Repeats::named_in))]
 fn is_before(before: Option<Globals<'_, '_>>, name: &str) -> bool
     ensures { result ≡ is_among name.now (names_before before.entry) }
 {
     match before {
-        Some(globals) => name == "result"
-            || globals.interface.get(name).is_some()
-            || globals.own.get(name).is_some(),
+        Some(globals) => name == "result" || is_global(globals, name),
         None => false,
     }
 }
