@@ -34,3 +34,4 @@ pub mod SameScopes
 pub mod Layered
 pub mod SameMembers
 pub mod Heads
+pub mod Untyped
