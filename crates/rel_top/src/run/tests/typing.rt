@@ -127,7 +127,7 @@ const ITEMS: [Row<'_>; 18] = [
 const UNIT: &str = "class C { f : int ; next : C ; } class D { } \
     unit U { global x : int ; global g : rgn ; global c : C ; global d : D ; ";
 
-/// Procedures, up to their first command, which has a fault of a later place.
+/// Procedures, up to their first command, which has a fault too, at a later place.
 const PROCEDURES: [Row<'_>; 13] = [
     (
         "two parameters of one name",
