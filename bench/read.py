@@ -16,9 +16,9 @@ PROGRAM is a built verifier; without one, crates/rel_top/out/rel_top.
 import os
 import sys
 import tempfile
-import time
 
-from straight import TOP, bundle, read, write
+from measure import BUILT, check, program, write
+from straight import bundle
 
 SIZES = [4096, 8192, 16384]
 TRIES = 15
@@ -30,39 +30,34 @@ def texts(size):
     return ["/" * (len(text) - 1) + "\n%", text + "%", text + "}"]
 
 
-def run(program, folder):
-    words = [program, "check", os.path.join(folder, "bundle"), os.path.join(folder, "proof")]
-    lines = os.path.join(folder, "lines")
-    output = (os.POSIX_SPAWN_OPEN, 1, lines, os.O_WRONLY | os.O_CREAT | os.O_TRUNC, 0o600)
-    start = time.monotonic()
-    child = os.posix_spawn(program, words, os.environ, file_actions=[output])
-    _, status, _ = os.wait4(child, 0)
-    seconds = time.monotonic() - start
-    if os.waitstatus_to_exitcode(status) != 1 or not read(lines).startswith("refused "):
-        sys.exit("this is no refusal: %r" % read(lines))
-    return seconds
+def refused(verifier, folder):
+    """The seconds of a refusal."""
+    run, said = check(verifier, folder)
+    if run.status != 1 or not said.startswith("refused "):
+        sys.exit("this is no refusal: %r" % said)
+    return run.seconds
 
 
-def measure(programs, size, folder):
-    """For each program, the shortest times of the three texts."""
+def measure(verifiers, size, folder):
+    """For each verifier, the shortest times of the three texts."""
     write(os.path.join(folder, "proof"), "")
-    best = [[float("inf")] * 3 for _ in programs]
+    best = [[float("inf")] * 3 for _ in verifiers]
     for number, text in enumerate(texts(size)):
         write(os.path.join(folder, "bundle"), text)
         for _ in range(TRIES):
-            for times, program in zip(best, programs):
-                times[number] = min(times[number], run(program, folder))
+            for times, verifier in zip(best, verifiers):
+                times[number] = min(times[number], refused(verifier, folder))
     return best
 
 
 def main():
-    given = sys.argv[1:] or [os.path.join(TOP, "crates", "rel_top", "out", "rel_top")]
-    programs = [os.path.abspath(name) for name in given]
+    given = sys.argv[1:] or [BUILT]
+    verifiers = [program(name) for name in given]
     row = "%8s %10s %10s %10s  %s"
     print(row % ("n", "start ms", "tokens ms", "trees ms", "program"))
     with tempfile.TemporaryDirectory() as folder:
         for size in SIZES:
-            for name, (start, cut, whole) in zip(given, measure(programs, size, folder)):
+            for name, (start, cut, whole) in zip(given, measure(verifiers, size, folder)):
                 times = ["%.1f" % (1000 * seconds) for seconds in (start, cut - start, whole - cut)]
                 print(row % (size, *times, name))
 

@@ -5,17 +5,16 @@
 
 For n = 1,024, 2,048, .. 16,384 it writes a bundle and a proof to a folder of its own, runs the program
 on them three times, and prints the shortest time, the peak memory and how both grow as n doubles.
-PROGRAM is the built verifier; without it, crates/rel_top/out/rel_top. Python itself takes some 10 MB,
-which is the least that the peak memory can show.
+PROGRAM is the built verifier; without it, crates/rel_top/out/rel_top.
 """
 
 import json
 import os
 import sys
 import tempfile
-import time
 
-TOP = os.path.dirname(os.path.dirname(os.path.abspath(__file__)))
+from measure import TOP, best, check, print_heads, print_row, program, read, write
+
 SIZES = [1024, 2048, 4096, 8192, 16384]
 TRIES = 3
 
@@ -65,16 +64,6 @@ def proof(left, right):
     return json.dumps({"whyrel": 1, "proofs": [steps]}, separators=(",", ":"))
 
 
-def read(path):
-    with open(path, encoding="ascii") as file:
-        return file.read()
-
-
-def write(path, text):
-    with open(path, "w", encoding="ascii") as file:
-        file.write(text)
-
-
 def compare_with_example():
     """The texts made here are those of the example, where its blocks are wanted."""
     example = os.path.join(TOP, "examples", "straight")
@@ -84,50 +73,31 @@ def compare_with_example():
         sys.exit("the proof differs from examples/straight/sum.json")
 
 
-def run(program, folder):
-    """Seconds, and the peak memory in KiB."""
-    words = [program, "check", os.path.join(folder, "bundle"), os.path.join(folder, "proof")]
-    lines = os.path.join(folder, "lines")
-    output = (os.POSIX_SPAWN_OPEN, 1, lines, os.O_WRONLY | os.O_CREAT | os.O_TRUNC, 0o600)
-    start = time.monotonic()
-    child = os.posix_spawn(program, words, os.environ, file_actions=[output])
-    _, status, usage = os.wait4(child, 0)
-    seconds = time.monotonic() - start
-    said = read(lines)
-    status = os.waitstatus_to_exitcode(status)
-    if status != 0 or not said.endswith("yes: 3 items, 1 obligations\n"):
-        sys.exit("this is no yes: status %d, and the output is %r" % (status, said))
-    return seconds, usage.ru_maxrss
+def checked(verifier, folder):
+    run, said = check(verifier, folder)
+    if run.status != 0 or not said.endswith("yes: 3 items, 1 obligations\n"):
+        sys.exit("this is no yes: status %d, and the output is %r" % (run.status, said))
+    return run
 
 
-def measure(program, size, folder):
+def measure(verifier, size, folder):
     left = [1] * size
     right = [3, -1] * (size // 2)
     write(os.path.join(folder, "bundle"), bundle(left, right))
     write(os.path.join(folder, "proof"), proof(size, size))
-    runs = [run(program, folder) for _ in range(TRIES)]
-    return min(seconds for seconds, _ in runs), max(memory for _, memory in runs)
-
-
-def ratio(now, before):
-    return "" if before is None else "%.2f" % (now / before)
+    return best([checked(verifier, folder) for _ in range(TRIES)])
 
 
 def main():
-    given = sys.argv[1:2] or [os.path.join(TOP, "crates", "rel_top", "out", "rel_top")]
-    program = os.path.abspath(given[0])
-    if not os.access(program, os.X_OK):
-        sys.exit("%s is not there: build it by ./whyrel" % program)
+    verifier = program(*sys.argv[1:2])
     compare_with_example()
-    row = "%8s %10s %8s %12s %8s"
-    print(row % ("n", "seconds", "ratio", "peak MiB", "ratio"))
-    before = (None, None)
+    print_heads("n")
+    before = None
     with tempfile.TemporaryDirectory() as folder:
         for size in SIZES:
-            seconds, memory = measure(program, size, folder)
-            ratios = ratio(seconds, before[0]), ratio(memory, before[1])
-            print(row % (size, "%.3f" % seconds, ratios[0], "%.1f" % (memory / 1024), ratios[1]))
-            before = (seconds, memory)
+            now = measure(verifier, size, folder)
+            print_row(size, now, before)
+            before = now
 
 
 if __name__ == "__main__":

@@ -1126,3 +1126,5 @@ fn show_refuses_a_text_as_check_does(rt: HostRuntime) -> Result<(), Fail> {
     assert_eq!(rt; outcome(alloc, call)?.as_str(), "3|file fault: none.rel\n");
     Ok(())
 }
+
+mod typing;
