@@ -646,28 +646,28 @@ const HOSTILE: [Hostile<'_>; 25] = [
         "1|refused Syntax at 291\n",
     ),
     (
-        "16,384 fields",
-        b"class C { ",
-        b"f : int ; ",
+        "16,384 commands",
+        b"unit U { proc p ( ) : int requires true ensures true writes { } { ",
+        b"skip ; ",
         16_384,
-        b"}",
+        b"} }",
         NO_BUNDLE,
     ),
     (
-        "16,385 fields",
-        b"class C { ",
-        b"f : int ; ",
+        "16,385 commands",
+        b"unit U { proc p ( ) : int requires true ensures true writes { } { ",
+        b"skip ; ",
         16_385,
-        b"}",
-        "1|refused TooMany at 163850\n",
+        b"} }",
+        "1|refused TooMany at 114754\n",
     ),
     (
-        "a character that begins nothing, behind 16,385 fields",
-        b"class C { ",
-        b"f : int ; ",
+        "a character that begins nothing, behind 16,385 commands",
+        b"unit U { proc p ( ) : int requires true ensures true writes { } { ",
+        b"skip ; ",
         16_385,
-        b"} %",
-        "1|refused Lexical BadChar at 163862\n",
+        b"} } %",
+        "1|refused Lexical BadChar at 114765\n",
     ),
 ];
 
@@ -690,45 +690,6 @@ fn hostile_texts_end_as_they_are_meant_to(rt: HostRuntime) -> Result<(), Fail> {
     }
     Ok(())
 }
-
-/// Pieces of the good bundle, each with a text that leaves the bundle untyped.
-const UNTYPED: [(&str, &str); 23] = [
-    ("V", "U"),
-    ("J", "U"),
-    ("J", "V"),
-    (
-        "U { global x : int ;",
-        "U { global x : int ; global x : int ;",
-    ),
-    (
-        "V { global x : int ;",
-        "V { global x : int ; global x : int ;",
-    ),
-    (
-        "U { global x : int ;",
-        "U { global x : int ; global result : int ;",
-    ),
-    (
-        "V { global x : int ;",
-        "V { global x : int ; global result : int ;",
-    ),
-    ("U { global x : int ;", "U {"),
-    (": U .", ": W ."),
-    ("~ V .", "~ W ."),
-    (". p", ". r"),
-    (". q", ". r"),
-    ("x := ( x + 2 ) ;", "x := ( x + 2 ) ; y := 1 ;"),
-    ("( x + 2 )", "( x + y )"),
-    ("( x + 2 )", "( ( y - y ) + ( x + 2 ) )"),
-    ("requires ( x =:= x )", "requires ( y =:= x )"),
-    ("requires ( x =:= x )", "requires ( x =:= y )"),
-    ("requires ( x =:= x )", "requires ( result =:= x )"),
-    ("requires ( x =:= x )", "requires ( x =:= result )"),
-    ("ensures ( x =:= x )", "ensures ( y =:= x )"),
-    ("ensures ( x =:= x )", "ensures ( x =:= y )"),
-    ("{ x } { x := ( x + 1 )", "{ x , y } { x := ( x + 1 )"),
-    ("{ x } { x := ( x + 2 )", "{ x , y } { x := ( x + 2 )"),
-];
 
 /// Pieces of the good bundle, each with a text that makes it one of another form.
 const OTHER_FORMS: [(&str, &str); 17] = [
@@ -791,19 +752,19 @@ fn only_the_first_unit_stands_on_the_left(rt: HostRuntime) -> Result<(), Fail> {
 fn other_items_are_refused(rt: HostRuntime) -> Result<(), Fail> {
     let second_judge = replaced(rt.alloc(), JUDGE, "J", "K")?;
     let second_judge = second_judge.as_str();
-    let cases: [[&str; 4]; 7] = [
-        [FIRST, SECOND, "", ""],
-        [FIRST, "", "", ""],
-        ["", "", JUDGE, ""],
-        [FIRST, "unit V { }", JUDGE, ""],
-        ["unit U { }", SECOND, JUDGE, ""],
-        [FIRST, JUDGE, SECOND, ""],
-        [FIRST, SECOND, JUDGE, second_judge],
+    let cases: [([&str; 4], &str); 7] = [
+        ([FIRST, SECOND, "", ""], NO_BUNDLE),
+        ([FIRST, "", "", ""], NO_BUNDLE),
+        (["", "", JUDGE, ""], "1|refused Typing Unknown at 0\n"),
+        ([FIRST, "unit V { }", JUDGE, ""], "1|refused Typing Unknown at 133\n"),
+        (["unit U { }", SECOND, JUDGE, ""], "1|refused Typing Unknown at 116\n"),
+        ([FIRST, JUDGE, SECOND, ""], NO_BUNDLE),
+        ([FIRST, SECOND, JUDGE, second_judge], NO_BUNDLE),
     ];
-    for [first, second, third, fourth] in cases {
+    for ([first, second, third, fourth], line) in cases {
         let bundle = format!(in rt.alloc(); "{first}{second}{third}{fourth}")?;
         let text = bundle.as_str();
-        refuses_bundle(&rt, rt.alloc(), text, text.as_bytes(), NO_BUNDLE)?;
+        refuses_bundle(&rt, rt.alloc(), text, text.as_bytes(), line)?;
     }
     Ok(())
 }
@@ -1043,7 +1004,6 @@ fn reads_unusual_proof_files(rt: &impl Abort, alloc: Global) -> Result<(), Fail>
 fn each_reason_has_its_line(rt: HostRuntime) -> Result<(), Fail> {
     let alloc = rt.alloc();
     refuses_ill_formed(&rt, alloc)?;
-    are_refused(&rt, alloc, &UNTYPED)?;
     are_refused(&rt, alloc, &OTHER_FORMS)?;
     refuses_other_bytes(&rt, alloc)?;
     reads_unusual_bundles(&rt, alloc)?;
