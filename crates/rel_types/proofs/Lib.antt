@@ -25,3 +25,4 @@ pub mod Calling
 pub mod Layered
 pub mod SameMembers
 pub mod Heads
+pub mod Named
