@@ -1,5 +1,5 @@
 -- The first fault of a list of members, each of which is told which names stand before it.
-use Rattle.std.proofs.Common.{◌≡◌, ℕ, suc, ◌+◌, ◌<◌, ◌≤◌, ◌||◌, List, [], ◌∷◌, Option, Some, None, map, get_or, drop, length, arith, refl, sym, ap, ap₂, ◌∙◌}
+use Rattle.std.proofs.Common.{◌≡◌, ℕ, suc, ◌+◌, ◌<◌, ◌≤◌, Bool, ◌||◌, List, [], ◌∷◌, Option, Some, None, map, get_or, drop, length, arith, refl, sym, ap, ap₂, ◌∙◌}
 use Rattle.std.specs.Prelude.{bytes_eq}
 use Rattle.std.proofs.Math.Seq.{drop-cons}
 use Rattle.std.proofs.Math.ListN.{drop_of_length-le}
@@ -7,7 +7,7 @@ use Rattle.rel_lang.specs.Scope.{Setting}
 use Rattle.rel_lang.specs.State.{Tables}
 use Rattle.rel_lang.specs.Syntax.{Word, Proc}
 use Rattle.rel_lang.specs.Typed.{Signature}
-use Rattle.rel_flaws.specs.Flaws.{Pass, Fault, first_of}
+use Rattle.rel_flaws.specs.Flaws.{Flaws, flawless, Pass, Fault, first_of}
 use Rattle.rel_flaws.specs.Inference.{is_among}
 use Rattle.rel_types.specs.Items.{first_named, twice_where, proc_fault}
 use Rattle.rel_types.specs.Lookups.{SameNames}
@@ -55,3 +55,7 @@ fault_of_proc tables pass setting callees seen q = proc_fault tables pass (setti
 
 pub proc_asks : (tables : Tables) (pass : Pass) (setting : Proc → Setting) (callees : List Signature) → AsksForNames (fault_of_proc tables pass setting callees)
 proc_asks tables pass setting callees s t h q = ap (λ b. proc_fault tables pass (setting q) callees (twice_where b) q) (h q.name)
+
+-- whether a name stands before, as the only flaw
+pub seen_twice : (f : Flaws) (b : Bool) (n x : Word) (seen : List Word) → f ≡ flawless → b ≡ is_among n seen → n ≡ x → record f { twice = b } ≡ twice_where (is_among x seen)
+seen_twice f b n x seen none is e = ap {A = Flaws} (λ g. record g { twice = b }) none ∙ ap twice_where (is ∙ ap (λ m. is_among m seen) e)
