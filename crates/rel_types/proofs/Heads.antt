@@ -1,5 +1,5 @@
 -- The first fault of a place and of what comes after it.
-use Rattle.std.proofs.Common.{◌≡◌, Bool, ◌||◌, List, [], ◌++◌, Option, Some, None, option_map, refl, sym, ap, ap₂, ◌∙◌, subst}
+use Rattle.std.proofs.Common.{◌≡◌, Bool, ◌||◌, List, [], ◌++◌, Option, Some, None, option_map, refl, sym, ap, ap₂, ◌∙◌, subst, append-nil}
 use Rattle.std.proofs.lemmas.List.Folds.{list_any-append}
 use Rattle.rel_lang.specs.Syntax.{Word, Ty, Decl, Clause}
 use Rattle.rel_lang.specs.State.{Tables, Scope}
@@ -54,3 +54,7 @@ none_seen es e = seen_same (variables_seen es) [] [] (ap variables_seen e) (λ x
 
 pub no_globals : (es : List (Word × Seen)) → es ≡ [] → SameLookups (variables_seen es ++ variables_seen es) []
 no_globals es e = seen_same (variables_seen es ++ variables_seen es) [] [] (ap (λ l. variables_seen l ++ variables_seen l) e) (λ x. refl)
+
+-- one layer, and an empty one behind it
+pub alone_seen : (es none : List (Word × Seen)) (sc : Scope) → none ≡ [] → SameLookups (variables_seen es) sc → SameLookups (variables_seen es ++ variables_seen none) sc
+alone_seen es none sc e h = seen_same (variables_seen es ++ variables_seen none) (variables_seen es) sc (ap (λ l. variables_seen es ++ variables_seen l) e ∙ append-nil (variables_seen es)) h

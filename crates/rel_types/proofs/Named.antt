@@ -5,11 +5,11 @@ use Rattle.std.proofs.Math.Seq.{drop-cons}
 use Rattle.std.proofs.Math.ListN.{drop_of_length-le}
 use Rattle.rel_lang.specs.Scope.{Setting}
 use Rattle.rel_lang.specs.State.{Tables}
-use Rattle.rel_lang.specs.Syntax.{Word, Proc}
+use Rattle.rel_lang.specs.Syntax.{Word, Proc, Sig}
 use Rattle.rel_lang.specs.Typed.{Signature}
 use Rattle.rel_flaws.specs.Flaws.{Flaws, flawless, Pass, Fault, first_of}
 use Rattle.rel_flaws.specs.Inference.{is_among}
-use Rattle.rel_types.specs.Items.{first_named, twice_where, proc_fault}
+use Rattle.rel_types.specs.Items.{first_named, twice_where, proc_fault, sig_fault}
 use Rattle.rel_types.specs.Lookups.{SameNames}
 
 -- the same names give a member the same fault
@@ -59,3 +59,10 @@ proc_asks tables pass setting callees s t h q = ap (λ b. proc_fault tables pass
 -- whether a name stands before, as the only flaw
 pub seen_twice : (f : Flaws) (b : Bool) (n x : Word) (seen : List Word) → f ≡ flawless → b ≡ is_among n seen → n ≡ x → record f { twice = b } ≡ twice_where (is_among x seen)
 seen_twice f b n x seen none is e = ap {A = Flaws} (λ g. record g { twice = b }) none ∙ ap twice_where (is ∙ ap (λ m. is_among m seen) e)
+
+-- of a method, each in its setting
+abbrev pub fault_of_method : Tables → Pass → (Sig → Setting) → List Word → Sig → Option Fault
+fault_of_method tables pass setting seen q = sig_fault tables pass (setting q) (twice_where (is_among q.name seen)) q
+
+pub method_asks : (tables : Tables) (pass : Pass) (setting : Sig → Setting) → AsksForNames (fault_of_method tables pass setting)
+method_asks tables pass setting s t h q = ap (λ b. sig_fault tables pass (setting q) (twice_where b) q) (h q.name)
