@@ -1,15 +1,11 @@
 -- The first fault of a list of members, each of which is told which names stand before it.
-use Rattle.std.proofs.Common.{◌≡◌, ℕ, suc, ◌+◌, ◌<◌, ◌≤◌, Bool, ◌||◌, List, [], ◌∷◌, Option, Some, None, map, get_or, drop, length, arith, refl, sym, ap, ap₂, ◌∙◌}
+use Rattle.std.proofs.Common.{◌≡◌, ℕ, suc, ◌+◌, ◌<◌, Bool, ◌||◌, List, [], ◌∷◌, Option, Some, None, map, get_or, drop, length, arith, refl, sym, ap, ap₂, ◌∙◌}
 use Rattle.std.specs.Prelude.{bytes_eq}
 use Rattle.std.proofs.Math.Seq.{drop-cons}
-use Rattle.std.proofs.Math.ListN.{drop_of_length-le}
-use Rattle.rel_lang.specs.Scope.{Setting}
-use Rattle.rel_lang.specs.State.{Tables}
-use Rattle.rel_lang.specs.Syntax.{Word, Proc, Sig}
-use Rattle.rel_lang.specs.Typed.{Signature}
-use Rattle.rel_flaws.specs.Flaws.{Flaws, flawless, Pass, Fault, first_of}
+use Rattle.rel_lang.specs.Syntax.{Word}
+use Rattle.rel_flaws.specs.Flaws.{Flaws, flawless, Fault, first_of}
 use Rattle.rel_flaws.specs.Inference.{is_among}
-use Rattle.rel_types.specs.Items.{first_named, twice_where, proc_fault, sig_fault}
+use Rattle.rel_types.specs.Items.{first_named, twice_where}
 use Rattle.rel_types.specs.Lookups.{SameNames}
 
 -- the same names give a member the same fault
@@ -44,25 +40,16 @@ module _ {X Y : Type 0} (name : Y → Word) (fault : List Word → Y → Option 
       ∙ with_names (name (view d) ∷ seen) after (λ x. sym (added x ∙ ap (λ m. is_among x (m ∷ seen)) e)) (map view (drop (suc i) xs))
       ∙ ap (λ k. first_named name fault after (map view (drop k xs))) step
 
-  pub named_none : (whole : Option Fault) (seen : List Word) (xs : List X) (i : ℕ) → length xs ≤ i → whole ≡ first_named name fault seen (map view (drop i xs)) → None ≡ whole
-  named_none whole seen xs i h before = sym (before ∙ ap (λ l. first_named name fault seen (map view l)) (drop_of_length-le xs h))
+-- ---- members that are told by a flaw whether their name stands before
 
--- ---- procedures
+abbrev pub told : {Y : Type 0} → (Y → Word) → (Flaws → Y → Option Fault) → List Word → Y → Option Fault
+told name fault seen y = fault (twice_where (is_among (name y) seen)) y
 
--- of a procedure, each in its setting
-abbrev pub fault_of_proc : Tables → Pass → (Proc → Setting) → List Signature → List Word → Proc → Option Fault
-fault_of_proc tables pass setting callees seen q = proc_fault tables pass (setting q) callees (twice_where (is_among q.name seen)) q
+pub told_asks : {Y : Type 0} (name : Y → Word) (fault : Flaws → Y → Option Fault) → AsksForNames (told name fault)
+told_asks name fault s t h y = ap (λ b. fault (twice_where b) y) (h (name y))
 
-pub proc_asks : (tables : Tables) (pass : Pass) (setting : Proc → Setting) (callees : List Signature) → AsksForNames (fault_of_proc tables pass setting callees)
-proc_asks tables pass setting callees s t h q = ap (λ b. proc_fault tables pass (setting q) callees (twice_where b) q) (h q.name)
-
--- whether a name stands before, as the only flaw
-pub seen_twice : (f : Flaws) (b : Bool) (n x : Word) (seen : List Word) → f ≡ flawless → b ≡ is_among n seen → n ≡ x → record f { twice = b } ≡ twice_where (is_among x seen)
-seen_twice f b n x seen none is e = ap {A = Flaws} (λ g. record g { twice = b }) none ∙ ap twice_where (is ∙ ap (λ m. is_among m seen) e)
-
--- of a method, each in its setting
-abbrev pub fault_of_method : Tables → Pass → (Sig → Setting) → List Word → Sig → Option Fault
-fault_of_method tables pass setting seen q = sig_fault tables pass (setting q) (twice_where (is_among q.name seen)) q
-
-pub method_asks : (tables : Tables) (pass : Pass) (setting : Sig → Setting) → AsksForNames (fault_of_method tables pass setting)
-method_asks tables pass setting s t h q = ap (λ b. sig_fault tables pass (setting q) (twice_where b) q) (h q.name)
+-- by what was found of its name
+pub is_told : {Y : Type 0} (name : Y → Word) (fault : Flaws → Y → Option Fault) (r : Option Fault) (f : Flaws) (b : Bool) (n : Word) (seen : List Word) (y : Y)
+    → r ≡ fault (record f { twice = b }) y → f ≡ flawless → b ≡ is_among n seen → n ≡ name y → r ≡ told name fault seen y
+is_told name fault r f b n seen y here none is same =
+    here ∙ ap (λ g. fault g y) (ap {A = Flaws} (λ g. record g { twice = b }) none ∙ ap twice_where (is ∙ ap (λ m. is_among m seen) same))

@@ -15,7 +15,7 @@ use Rattle.rel_types.proofs.Declaring.{same_self}
 use Rattle.rel_types.proofs.Repeats.{same_names_of, repeats_same}
 use Rattle.rel_types.proofs.Settings.{clause_same, effect_same, all_same}
 use Rattle.rel_types.proofs.Knowledge.{block_same}
-use Rattle.rel_types.proofs.Named.{fault_of_proc, fault_of_method}
+use Rattle.rel_types.proofs.Named.{told}
 
 -- ---- scopes
 
@@ -103,20 +103,21 @@ first_named_same name f f' h seen (x ∷ xs) = ap₂ first_of (h seen x) (first_
 -- the procedures of a unit
 pub unit_same : (tables : Tables) (pass : Pass) (u : UnitItem) (none own : Scope) (callees : List Signature) → SameLookups none [] → SameLookups own (unit_globals u)
     → SameCallees callees (map signature_of_proc u.procs)
-    → first_named (λ q. q.name) (fault_of_proc tables pass (λ q. record { interface = none; own = own; parameters = q.params; locals = q.body.locals; result = Some q.result }) callees) [] u.procs
-    ≡ first_named (λ q. q.name) (fault_of_proc tables pass (unit_setting u) (map signature_of_proc u.procs)) [] u.procs
+    → first_named (λ q. q.name) (told (λ q. q.name) (λ more q. proc_fault tables pass (record { interface = none; own = own; parameters = q.params; locals = q.body.locals; result = Some q.result }) callees more q)) [] u.procs
+    ≡ first_named (λ q. q.name) (told (λ q. q.name) (λ more q. proc_fault tables pass (unit_setting u q) (map signature_of_proc u.procs) more q)) [] u.procs
 unit_same tables pass u none own callees h k l =
     let setting : Proc → Setting = λ q. record { interface = none; own = own; parameters = q.params; locals = q.body.locals; result = Some q.result } in
-    first_named_same (λ q. q.name) (fault_of_proc tables pass setting callees) (fault_of_proc tables pass (unit_setting u) (map signature_of_proc u.procs))
+    first_named_same (λ q. q.name) (told (λ q. q.name) (λ more q. proc_fault tables pass (setting q) callees more q))
+    (told (λ q. q.name) (λ more q. proc_fault tables pass (unit_setting u q) (map signature_of_proc u.procs) more q))
     (λ seen q. proc_same (setting q) (unit_setting u q) (record { interface = h; own = k; parameters = λ i. q.params; locals = λ i. q.body.locals; result = λ i. Some q.result }) tables pass
     callees (map signature_of_proc u.procs) l (twice_where (is_among q.name seen)) q) [] u.procs
 
 -- the methods of an interface
 pub methods_same : (tables : Tables) (pass : Pass) (i : Interface) (globals own : Scope) → SameLookups globals (interface_globals i) → SameLookups own []
-    → first_named (λ q. q.name) (fault_of_method tables pass (λ q. record { interface = globals; own = own; parameters = q.params; locals = []; result = Some q.result })) [] i.methods
+    → first_named (λ q. q.name) (told (λ q. q.name) (λ more q. sig_fault tables pass (record { interface = globals; own = own; parameters = q.params; locals = []; result = Some q.result }) more q)) [] i.methods
     ≡ first_named (λ q. q.name) (method_fault tables pass i) [] i.methods
 methods_same tables pass i globals own h k =
     let setting : Sig → Setting = λ q. record { interface = globals; own = own; parameters = q.params; locals = []; result = Some q.result } in
-    first_named_same (λ q. q.name) (fault_of_method tables pass setting) (method_fault tables pass i)
+    first_named_same (λ q. q.name) (told (λ q. q.name) (λ more q. sig_fault tables pass (setting q) more q)) (method_fault tables pass i)
     (λ seen q. sig_same (setting q) (signature_setting i q) (record { interface = h; own = k; parameters = λ j. q.params; locals = λ j. []; result = λ j. Some q.result }) tables pass
     (twice_where (is_among q.name seen)) q) [] i.methods
