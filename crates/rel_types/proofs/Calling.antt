@@ -1,11 +1,14 @@
 -- Procedures and methods that are the same for each name, and one more of them.
-use Rattle.std.proofs.Common.{◌≡◌, ℕ, ◌<◌, ◌+◌, Bool, true, false, if◌then◌else◌, List, [], ◌∷◌, ◌++◌, map, take, get_or, length, Option, Some, None, refl, sym, ap, ap₂, ◌∙◌, append_assoc}
+use Rattle.std.proofs.Common.{◌≡◌, ℕ, ◌<◌, ◌+◌, Bool, true, false, if◌then◌else◌, List, [], ◌∷◌, ◌++◌, map, take, get_or, length, Option, Some, None, refl, sym, ap, ap₂, ◌∙◌, append_assoc, append-nil}
 use Rattle.std.specs.Prelude.{bytes_eq}
 use Rattle.std.proofs.lemmas.Slice.Eq.{bytes_eq-Decides}
 use Rattle.std.proofs.lemmas.List.{take_more, map-append}
+use Rattle.std.proofs.lemmas.Simd.{map-map}
 use Rattle.rel_lang.specs.Syntax.{Word}
 use Rattle.rel_lang.specs.State.{find_named}
-use Rattle.rel_lang.specs.Typed.{Signature}
+use Rattle.rel_lang.specs.Typed.{Signature, signature_of_proc}
+use Rattle.rel_lang.specs.View.{proc_of}
+use Rattle.rel_lang.specs.declared.bundle.Proc.{Proc}
 use Rattle.rel_flaws.specs.Entries.{with_entry}
 use Rattle.rel_flaws.specs.CodeView.{callee_of}
 use Rattle.rel_flaws.specs.CodeView.{callees_seen}
@@ -74,3 +77,11 @@ more_callees sign after before base xs i d h is old new x =
     new x ∙ callees_after before (sign d ∷ []) (base ++ map sign (take i xs)) (sign d ∷ []) old (λ y. refl) x
     ∙ ap (find_named (λ r. r.name) x) (append_assoc base (map sign (take i xs)) (sign d ∷ [])
     ∙ ap (λ l. base ++ l) (sym (ap (map sign) (take_more xs i d h ∙ ap (λ a. take i xs ++ a ∷ []) (sym is)) ∙ map-append sign (take i xs) (d ∷ []))))
+
+-- procedures, and no methods
+pub procs_alone : (after before methods : List (Word × Callee)) (ps : List Proc) → before ≡ [] → methods ≡ []
+    → SameCallees (callees_seen after) (callees_seen before ++ map (λ q. signature_of_proc (proc_of q)) ps) → SameCallees (callees_seen after ++ callees_seen methods) (map signature_of_proc (map proc_of ps))
+procs_alone after before methods ps none without h x =
+    ap (find_named (λ q. q.name) x) (ap (λ m. callees_seen after ++ callees_seen m) without ∙ append-nil (callees_seen after))
+    ∙ h x ∙ ap (λ l. find_named (λ q. q.name) x (callees_seen l ++ map (λ q. signature_of_proc (proc_of q)) ps)) none
+    ∙ ap (find_named (λ q. q.name) x) (sym (map-map signature_of_proc proc_of ps))

@@ -1,13 +1,14 @@
 -- The first fault of a place and of what comes after it.
-use Rattle.std.proofs.Common.{◌≡◌, Bool, ◌||◌, List, ◌++◌, Option, Some, None, option_map, refl, sym, ap, ap₂, ◌∙◌, subst}
+use Rattle.std.proofs.Common.{◌≡◌, Bool, ◌||◌, List, [], ◌++◌, Option, Some, None, option_map, refl, sym, ap, ap₂, ◌∙◌, subst, append-nil}
 use Rattle.std.proofs.lemmas.List.Folds.{list_any-append}
-use Rattle.rel_lang.specs.Syntax.{Ty, Decl, Clause}
+use Rattle.rel_lang.specs.Syntax.{Word, Ty, Decl, Clause}
 use Rattle.rel_lang.specs.State.{Tables, Scope}
 use Rattle.rel_lang.specs.Scope.{Setting}
 use Rattle.rel_flaws.specs.Flaws.{Flaws, flawless, Pass, Fault, first_of}
 use Rattle.rel_flaws.specs.Inference.{names_unknown_class, have_unknown_types}
-use Rattle.rel_flaws.specs.View.{fault_of}
+use Rattle.rel_flaws.specs.View.{variables_seen, fault_of}
 use Rattle.rel_flaws.specs.declared.kind.Fault as T
+use Rattle.rel_flaws.specs.declared.scope.Seen.{Seen}
 use Rattle.rel_types.specs.Items.{clause_fault}
 use Rattle.rel_types.specs.Lookups.{SameLookups}
 use Rattle.rel_types.proofs.Settings.{clause_same}
@@ -46,3 +47,14 @@ pub same_setting : (sc sd : Scope) (ps ps' ls ls' : List Decl) (o o' : Option Ty
 same_setting sc sd ps ps' ls ls' o o' h k l =
     ap₂ {C = Setting} (λ qs ms. record { interface = sc; own = sd; parameters = qs; locals = ms; result = o }) h k
     ∙ ap {B = Setting} (λ r. record { interface = sc; own = sd; parameters = ps'; locals = ls'; result = r }) l
+
+-- nothing is seen
+pub none_seen : (es : List (Word × Seen)) → es ≡ [] → SameLookups (variables_seen es) []
+none_seen es e = seen_same (variables_seen es) [] [] (ap variables_seen e) (λ x. refl)
+
+pub no_globals : (es : List (Word × Seen)) → es ≡ [] → SameLookups (variables_seen es ++ variables_seen es) []
+no_globals es e = seen_same (variables_seen es ++ variables_seen es) [] [] (ap (λ l. variables_seen l ++ variables_seen l) e) (λ x. refl)
+
+-- one layer, and an empty one behind it
+pub alone_seen : (es none : List (Word × Seen)) (sc : Scope) → none ≡ [] → SameLookups (variables_seen es) sc → SameLookups (variables_seen es ++ variables_seen none) sc
+alone_seen es none sc e h = seen_same (variables_seen es ++ variables_seen none) (variables_seen es) sc (ap (λ l. variables_seen es ++ variables_seen l) e ∙ append-nil (variables_seen es)) h

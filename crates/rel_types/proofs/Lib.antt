@@ -35,3 +35,4 @@ pub mod Layered
 pub mod SameMembers
 pub mod Heads
 pub mod Untyped
+pub mod Named

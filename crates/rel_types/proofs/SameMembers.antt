@@ -1,13 +1,13 @@
 -- Procedures, methods and bodies have the same faults in settings that see the same.
-use Rattle.std.proofs.Common.{◌≡◌, Bool, true, false, ◌||◌, List, [], ◌∷◌, ◌++◌, Option, None, ap, ap₂, ◌∙◌, subst}
+use Rattle.std.proofs.Common.{◌≡◌, Bool, true, false, ◌||◌, List, [], ◌∷◌, ◌++◌, map, Option, Some, None, ap, ap₂, ◌∙◌, subst}
 use Rattle.std.specs.Prelude.{bytes_eq}
-use Rattle.rel_lang.specs.Syntax.{Word, Ty, Decl, Effect, Spec, Body, Proc, Sig}
+use Rattle.rel_lang.specs.Syntax.{Word, Ty, Decl, Effect, Spec, Body, Proc, Sig, Interface, UnitItem}
 use Rattle.rel_lang.specs.State.{Tables, Scope, ByCall}
-use Rattle.rel_lang.specs.Scope.{Setting, result_name, declared, result_variable, globals_of, parameters_of, own_variables, pre_scope, post_scope, body_scope}
-use Rattle.rel_lang.specs.Typed.{Signature}
+use Rattle.rel_lang.specs.Scope.{Setting, result_name, declared, result_variable, globals_of, parameters_of, own_variables, pre_scope, post_scope, body_scope, interface_globals, unit_globals, unit_setting, signature_setting}
+use Rattle.rel_lang.specs.Typed.{Signature, signature_of_proc}
 use Rattle.rel_flaws.specs.Flaws.{Flaws, flawless, either, Pass, Fault, fault_at, first_of}
-use Rattle.rel_flaws.specs.Inference.{names_unknown_class, have_unknown_types}
-use Rattle.rel_types.specs.Items.{repeats, declared_names, seen_by_members, flaws_of_effect, flaws_of_globals, flaws_of_head, clauses_fault, proc_fault, module_body_fault, sig_fault, first_named}
+use Rattle.rel_flaws.specs.Inference.{is_among, names_unknown_class, have_unknown_types}
+use Rattle.rel_types.specs.Items.{repeats, declared_names, seen_by_members, flaws_of_effect, flaws_of_globals, flaws_of_head, clauses_fault, proc_fault, module_body_fault, sig_fault, method_fault, first_named, twice_where}
 use Rattle.rel_types.specs.Lookups.{SameLookups, SameNames, SameCode, SameSettings}
 use Rattle.rel_types.specs.Called.{SameCallees}
 use Rattle.rel_types.proofs.Lookups.{same_after}
@@ -15,6 +15,7 @@ use Rattle.rel_types.proofs.Declaring.{same_self}
 use Rattle.rel_types.proofs.Repeats.{same_names_of, repeats_same}
 use Rattle.rel_types.proofs.Settings.{clause_same, effect_same, all_same}
 use Rattle.rel_types.proofs.Knowledge.{block_same}
+use Rattle.rel_types.proofs.Named.{told}
 
 -- ---- scopes
 
@@ -98,3 +99,25 @@ pub first_named_same : {X : Type 0} (name : X → Word) (f f' : List Word → X 
     → (seen : List Word) (xs : List X) → first_named name f seen xs ≡ first_named name f' seen xs
 first_named_same name f f' h seen [] = λ i. None
 first_named_same name f f' h seen (x ∷ xs) = ap₂ first_of (h seen x) (first_named_same name f f' h (name x ∷ seen) xs)
+
+-- the procedures of a unit
+pub unit_same : (tables : Tables) (pass : Pass) (u : UnitItem) (none own : Scope) (callees : List Signature) → SameLookups none [] → SameLookups own (unit_globals u)
+    → SameCallees callees (map signature_of_proc u.procs)
+    → first_named (λ q. q.name) (told (λ q. q.name) (λ more q. proc_fault tables pass (record { interface = none; own = own; parameters = q.params; locals = q.body.locals; result = Some q.result }) callees more q)) [] u.procs
+    ≡ first_named (λ q. q.name) (told (λ q. q.name) (λ more q. proc_fault tables pass (unit_setting u q) (map signature_of_proc u.procs) more q)) [] u.procs
+unit_same tables pass u none own callees h k l =
+    let setting : Proc → Setting = λ q. record { interface = none; own = own; parameters = q.params; locals = q.body.locals; result = Some q.result } in
+    first_named_same (λ q. q.name) (told (λ q. q.name) (λ more q. proc_fault tables pass (setting q) callees more q))
+    (told (λ q. q.name) (λ more q. proc_fault tables pass (unit_setting u q) (map signature_of_proc u.procs) more q))
+    (λ seen q. proc_same (setting q) (unit_setting u q) (record { interface = h; own = k; parameters = λ i. q.params; locals = λ i. q.body.locals; result = λ i. Some q.result }) tables pass
+    callees (map signature_of_proc u.procs) l (twice_where (is_among q.name seen)) q) [] u.procs
+
+-- the methods of an interface
+pub methods_same : (tables : Tables) (pass : Pass) (i : Interface) (globals own : Scope) → SameLookups globals (interface_globals i) → SameLookups own []
+    → first_named (λ q. q.name) (told (λ q. q.name) (λ more q. sig_fault tables pass (record { interface = globals; own = own; parameters = q.params; locals = []; result = Some q.result }) more q)) [] i.methods
+    ≡ first_named (λ q. q.name) (method_fault tables pass i) [] i.methods
+methods_same tables pass i globals own h k =
+    let setting : Sig → Setting = λ q. record { interface = globals; own = own; parameters = q.params; locals = []; result = Some q.result } in
+    first_named_same (λ q. q.name) (told (λ q. q.name) (λ more q. sig_fault tables pass (setting q) more q)) (method_fault tables pass i)
+    (λ seen q. sig_same (setting q) (signature_setting i q) (record { interface = h; own = k; parameters = λ j. q.params; locals = λ j. []; result = λ j. Some q.result }) tables pass
+    (twice_where (is_among q.name seen)) q) [] i.methods

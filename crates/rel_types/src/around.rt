@@ -4,7 +4,7 @@ ghost use Rattle.std.specs.Prelude.{◌≡◌, [], option_map};
 ghost use Rattle.rel_lang.specs.Scope.{pre_scope, post_scope, body_scope};
 ghost use Rattle.rel_flaws.specs.View.{layers_seen};
 ghost use Rattle.rel_types.specs.Lookups.{SameLookups};
-ghost use Rattle.rel_types.specs.OwnView.{AreLayers, setting_of};
+ghost use Rattle.rel_types.specs.OwnView.{AreLayers, globals_in, setting_of};
 ghost use Rattle.rel_types.specs.declared.own.Own as O;
 
 use crate::own::OwnLayers;
@@ -64,6 +64,20 @@ impl<'a, 's> Globals<'a, 's> {
             params: &own.params,
             locals: &own.locals,
             result: &own.result,
+        }
+    }
+
+    /// The globals by themselves.
+    pub fn alone(self, none: &'s Index<'a, Seen<'a>>) -> Layers<'a, 's>
+        requires { none.now ≡ [] }
+        ensures { layers_seen result ≡ globals_in self.entry }
+    {
+        Layers {
+            interface: self.interface,
+            globals: self.own,
+            params: none,
+            locals: none,
+            result: none,
         }
     }
 }

@@ -52,6 +52,21 @@ fn flaws_of_place<'a>(tables: &Tables<'a>, scope: &Scope<'a, '_>, place: &Place)
     field.either(flaws_of_region(tables, scope, &place.region))
 }
 
+/// The places of a boundary.
+pub(crate) fn flaws_of_places<'a>(
+    tables: &Tables<'a>,
+    scope: &Scope<'a, '_>,
+    places: &List<Place>,
+) -> Flaws
+    ensures { flaws_of result ≡ items.flaws_of_all (tables_seen tables.now) (items.flaws_of_place (tables_seen tables.now) (scope_of scope.now)) (map place_of places.now) }
+{
+    let mut flaws = Flaws::none();
+    for place in places.as_slice() {
+        flaws = flaws.either(flaws_of_place(tables, scope, place));
+    }
+    flaws
+}
+
 /// A listed global is one of these; a region is read in the scope.
 fn flaws_of_effect<'a>(
     tables: &Tables<'a>,
