@@ -1,5 +1,4 @@
 use Rattle.std.proofs.Common.{◌≡◌, ap, ◌∙◌}
-use Rattle.rel_lang.specs.Scope.{Setting}
 use Rattle.rel_lang.specs.View.{proc_of}
 use Rattle.rel_flaws.specs.Flaws.{either, fault_at}
 use Rattle.rel_flaws.specs.View.{tables_seen, flaws_of, pass_of, variables_seen}
