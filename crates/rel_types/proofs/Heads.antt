@@ -11,6 +11,9 @@ use Rattle.rel_flaws.specs.declared.kind.Fault as T
 use Rattle.rel_flaws.specs.declared.scope.Seen.{Seen}
 use Rattle.rel_types.specs.Items.{clause_fault}
 use Rattle.rel_types.specs.Lookups.{SameLookups}
+use Rattle.rel_types.specs.OwnView.{decls_in, type_in, setting_of}
+use Rattle.rel_types.specs.declared.around.Globals as G
+use Rattle.rel_types.specs.declared.own.Own as O
 use Rattle.rel_types.proofs.Settings.{clause_same}
 
 -- ---- two in turn
@@ -26,7 +29,8 @@ found_next r s a b is here next = next ∙ ap (λ g. first_of g b) (sym (ap (opt
 -- ---- flaws
 
 pub declared_flaws : (f : Flaws) (t t' u u' : Bool) → f ≡ flawless → t ≡ t' → u ≡ u' → record f { twice = t; unknown = u } ≡ record flawless { twice = t'; unknown = u' }
-declared_flaws f t t' u u' none h k = ap {A = Flaws} (λ g. record g { twice = t; unknown = u }) none ∙ ap₂ {C = Flaws} (λ a b. record flawless { twice = a; unknown = b }) h k
+declared_flaws f t t' u u' none h k =
+    ap {A = Flaws} (λ g. record g { twice = t; unknown = u }) none ∙ ap₂ {C = Flaws} (λ a b. record flawless { twice = a; unknown = b }) h k
 
 pub unknown_of_both : (tables : Tables) (ps ls : List Decl) (ty : Ty) (a b n : Bool) → a ≡ have_unknown_types tables ps → b ≡ have_unknown_types tables ls → n ≡ names_unknown_class tables ty
     → ((a || b) || n) ≡ (have_unknown_types tables (ps ++ ls) || names_unknown_class tables ty)
@@ -37,16 +41,18 @@ unknown_of_both tables ps ls ty a b n h k l = ap₂ (λ x y. x || y) (ap₂ (λ 
 pub seen_same : (sc sd se : Scope) → sc ≡ sd → SameLookups sd se → SameLookups sc se
 seen_same sc sd se e h = subst (λ s. SameLookups s se) (sym e) h
 
-pub clause_seen : (tables : Tables) (pass : Pass) (old : Bool) (sc sd se : Scope) (c : Clause) → sc ≡ sd → SameLookups sd se → clause_fault tables pass old sc c ≡ clause_fault tables pass old se c
+pub clause_seen : (tables : Tables) (pass : Pass) (old : Bool) (sc sd se : Scope) (c : Clause) → sc ≡ sd → SameLookups sd se
+    → clause_fault tables pass old sc c ≡ clause_fault tables pass old se c
 clause_seen tables pass old sc sd se c e h = clause_same tables pass old sc se (seen_same sc sd se e h) c
 
 -- ---- settings
 
-pub same_setting : (sc sd : Scope) (ps ps' ls ls' : List Decl) (o o' : Option Ty) → ps ≡ ps' → ls ≡ ls' → o ≡ o'
-    → ◌≡◌ {A = Setting} (record { interface = sc; own = sd; parameters = ps; locals = ls; result = o }) (record { interface = sc; own = sd; parameters = ps'; locals = ls'; result = o' })
-same_setting sc sd ps ps' ls ls' o o' h k l =
-    ap₂ {C = Setting} (λ qs ms. record { interface = sc; own = sd; parameters = qs; locals = ms; result = o }) h k
-    ∙ ap {B = Setting} (λ r. record { interface = sc; own = sd; parameters = ps'; locals = ls'; result = r }) l
+-- of a body with these variables of its own
+pub setting_is : (g : G.Globals) (o : O.Own) (ps ls : List Decl) (r : Option Ty) → decls_in o.params ≡ ps → decls_in o.locals ≡ ls → type_in o ≡ r
+    → setting_of g o ≡ record { interface = variables_seen g.interface.now; own = variables_seen g.own.now; parameters = ps; locals = ls; result = r }
+setting_is g o ps ls r h k l =
+    ap₂ {C = Setting} (λ qs ms. record { interface = variables_seen g.interface.now; own = variables_seen g.own.now; parameters = qs; locals = ms; result = type_in o }) h k
+    ∙ ap {B = Setting} (λ t. record { interface = variables_seen g.interface.now; own = variables_seen g.own.now; parameters = ps; locals = ls; result = t }) l
 
 -- nothing is seen
 pub none_seen : (es : List (Word × Seen)) → es ≡ [] → SameLookups (variables_seen es) []
@@ -57,4 +63,5 @@ no_globals es e = seen_same (variables_seen es ++ variables_seen es) [] [] (ap (
 
 -- one layer, and an empty one behind it
 pub alone_seen : (es none : List (Word × Seen)) (sc : Scope) → none ≡ [] → SameLookups (variables_seen es) sc → SameLookups (variables_seen es ++ variables_seen none) sc
-alone_seen es none sc e h = seen_same (variables_seen es ++ variables_seen none) (variables_seen es) sc (ap (λ l. variables_seen es ++ variables_seen l) e ∙ append-nil (variables_seen es)) h
+alone_seen es none sc e h =
+    seen_same (variables_seen es ++ variables_seen none) (variables_seen es) sc (ap (λ l. variables_seen es ++ variables_seen l) e ∙ append-nil (variables_seen es)) h

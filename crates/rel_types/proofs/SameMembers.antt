@@ -73,7 +73,8 @@ module _ (g h : Setting) (k : SameSettings g h) where
   proc_same tables pass cs ds l more q =
       ap₂ first_of (ap (λ f. fault_at pass q.at (either more f)) (head_same tables q.spec.writes q.result))
       (ap₂ first_of (clauses_same tables pass q.spec)
-      (block_same tables pass (record { scope = body_scope g; callees = cs; may_call = true }) (record { scope = body_scope h; callees = ds; may_call = true }) (same_code cs ds true l) q.body.commands))
+      (block_same tables pass (record { scope = body_scope g; callees = cs; may_call = true }) (record { scope = body_scope h; callees = ds; may_call = true })
+      (same_code cs ds true l) q.body.commands))
 
   pub sig_same : (tables : Tables) (pass : Pass) (more : Flaws) (q : Sig) → sig_fault tables pass g more q ≡ sig_fault tables pass h more q
   sig_same tables pass more q =
@@ -84,7 +85,8 @@ module _ (g h : Setting) (k : SameSettings g h) where
   module_body_same tables pass cs ds l b =
       ap₂ first_of
       (ap₂ {C = Option Fault} (λ t u. fault_at pass b.at (record flawless { twice = t; unknown = u })) own_names (ap (have_unknown_types tables) k.locals))
-      (block_same tables pass (record { scope = body_scope g; callees = cs; may_call = false }) (record { scope = body_scope h; callees = ds; may_call = false }) (same_code cs ds false l) b.commands)
+      (block_same tables pass (record { scope = body_scope g; callees = cs; may_call = false }) (record { scope = body_scope h; callees = ds; may_call = false })
+      (same_code cs ds false l) b.commands)
 
 -- ---- items
 
@@ -101,23 +103,28 @@ first_named_same name f f' h seen [] = λ i. None
 first_named_same name f f' h seen (x ∷ xs) = ap₂ first_of (h seen x) (first_named_same name f f' h (name x ∷ seen) xs)
 
 -- the procedures of a unit
+abbrev pub proc_in : Scope → Scope → Proc → Setting
+proc_in interface own q = record { interface = interface; own = own; parameters = q.params; locals = q.body.locals; result = Some q.result }
+
 pub unit_same : (tables : Tables) (pass : Pass) (u : UnitItem) (none own : Scope) (callees : List Signature) → SameLookups none [] → SameLookups own (unit_globals u)
     → SameCallees callees (map signature_of_proc u.procs)
-    → first_named (λ q. q.name) (told (λ q. q.name) (λ more q. proc_fault tables pass (record { interface = none; own = own; parameters = q.params; locals = q.body.locals; result = Some q.result }) callees more q)) [] u.procs
+    → first_named (λ q. q.name) (told (λ q. q.name) (λ more q. proc_fault tables pass (proc_in none own q) callees more q)) [] u.procs
     ≡ first_named (λ q. q.name) (told (λ q. q.name) (λ more q. proc_fault tables pass (unit_setting u q) (map signature_of_proc u.procs) more q)) [] u.procs
 unit_same tables pass u none own callees h k l =
-    let setting : Proc → Setting = λ q. record { interface = none; own = own; parameters = q.params; locals = q.body.locals; result = Some q.result } in
-    first_named_same (λ q. q.name) (told (λ q. q.name) (λ more q. proc_fault tables pass (setting q) callees more q))
+    first_named_same (λ q. q.name) (told (λ q. q.name) (λ more q. proc_fault tables pass (proc_in none own q) callees more q))
     (told (λ q. q.name) (λ more q. proc_fault tables pass (unit_setting u q) (map signature_of_proc u.procs) more q))
-    (λ seen q. proc_same (setting q) (unit_setting u q) (record { interface = h; own = k; parameters = λ i. q.params; locals = λ i. q.body.locals; result = λ i. Some q.result }) tables pass
+    (λ seen q. proc_same (proc_in none own q) (unit_setting u q)
+    (record { interface = h; own = k; parameters = λ i. q.params; locals = λ i. q.body.locals; result = λ i. Some q.result }) tables pass
     callees (map signature_of_proc u.procs) l (twice_where (is_among q.name seen)) q) [] u.procs
 
 -- the methods of an interface
-pub methods_same : (tables : Tables) (pass : Pass) (i : Interface) (globals own : Scope) → SameLookups globals (interface_globals i) → SameLookups own []
-    → first_named (λ q. q.name) (told (λ q. q.name) (λ more q. sig_fault tables pass (record { interface = globals; own = own; parameters = q.params; locals = []; result = Some q.result }) more q)) [] i.methods
+abbrev pub method_in : Scope → Scope → Sig → Setting
+method_in interface own q = record { interface = interface; own = own; parameters = q.params; locals = []; result = Some q.result }
+
+pub methods_same : (tables : Tables) (pass : Pass) (i : Interface) (globals none : Scope) → SameLookups globals (interface_globals i) → SameLookups none []
+    → first_named (λ q. q.name) (told (λ q. q.name) (λ more q. sig_fault tables pass (method_in globals none q) more q)) [] i.methods
     ≡ first_named (λ q. q.name) (method_fault tables pass i) [] i.methods
-methods_same tables pass i globals own h k =
-    let setting : Sig → Setting = λ q. record { interface = globals; own = own; parameters = q.params; locals = []; result = Some q.result } in
-    first_named_same (λ q. q.name) (told (λ q. q.name) (λ more q. sig_fault tables pass (setting q) more q)) (method_fault tables pass i)
-    (λ seen q. sig_same (setting q) (signature_setting i q) (record { interface = h; own = k; parameters = λ j. q.params; locals = λ j. []; result = λ j. Some q.result }) tables pass
-    (twice_where (is_among q.name seen)) q) [] i.methods
+methods_same tables pass i globals none h k =
+    first_named_same (λ q. q.name) (told (λ q. q.name) (λ more q. sig_fault tables pass (method_in globals none q) more q)) (method_fault tables pass i)
+    (λ seen q. sig_same (method_in globals none q) (signature_setting i q)
+    (record { interface = h; own = k; parameters = λ j. q.params; locals = λ j. []; result = λ j. Some q.result }) tables pass (twice_where (is_among q.name seen)) q) [] i.methods

@@ -1,7 +1,7 @@
 use Rattle.std.proofs.Common.{[], map, ap₂, ◌∙◌}
 use Rattle.rel_lang.specs.View.{place_of, effect_of}
 use Rattle.rel_flaws.specs.Flaws.{either}
-use Rattle.rel_flaws.specs.View.{tables_seen, scope_of, layers_seen}
+use Rattle.rel_flaws.specs.View.{tables_seen, scope_of}
 use Rattle.rel_types.specs.Items.{flaws_of_place, flaws_of_effect}
 use Rattle.rel_types.specs.OwnView.{globals_in}
 use Rattle.rel_types.proofs.Heads.{seen_same, no_globals}

@@ -1,4 +1,3 @@
-use Rattle.std.proofs.Common.{ap, sym}
 use Rattle.rel_types.specs.OwnView.{globals_in}
 use Rattle.rel_flaws.specs.View.{layers_seen}
 use Rattle.rel_types.proofs.Heads.{found_here, found_next, seen_same}

@@ -1,4 +1,4 @@
-use Rattle.std.proofs.Common.{ap, ◌∙◌, ◌++◌, refl, map}
+use Rattle.std.proofs.Common.{ap, ◌∙◌, ◌++◌, map}
 use Rattle.rel_lang.specs.View.{decl_of}
 use Rattle.rel_flaws.specs.View.{tables_seen}
 use Rattle.rel_types.specs.Items.{repeats, seen_by_members, declared_names}

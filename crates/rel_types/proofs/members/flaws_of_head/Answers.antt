@@ -1,6 +1,5 @@
 use Rattle.std.proofs.Common.{ap₂, ◌∙◌, map}
 use Rattle.rel_lang.specs.Scope.{globals_of, pre_scope}
-use Rattle.rel_lang.specs.State.{Scope}
 use Rattle.rel_lang.specs.View.{effect_of, type_of}
 use Rattle.rel_flaws.specs.Flaws.{either}
 use Rattle.rel_flaws.specs.View.{tables_seen, scope_of, layers_seen}

@@ -1,29 +1,25 @@
-use Rattle.std.proofs.Common.{◌≡◌, ap, ◌∙◌}
-use Rattle.rel_lang.specs.Scope.{Setting}
+use Rattle.std.proofs.Common.{ap, ◌∙◌}
 use Rattle.rel_lang.specs.View.{proc_of}
 use Rattle.rel_flaws.specs.Flaws.{either, fault_at}
-use Rattle.rel_flaws.specs.View.{tables_seen, flaws_of, pass_of, variables_seen}
+use Rattle.rel_flaws.specs.View.{tables_seen, flaws_of, pass_of}
 use Rattle.rel_types.specs.Items.{proc_fault}
-use Rattle.rel_types.specs.OwnView.{setting_of, proc_setting, callees_in}
-use Rattle.rel_types.proofs.Heads.{found_here, found_next, same_setting}
+use Rattle.rel_types.specs.OwnView.{callees_in}
+use Rattle.rel_types.proofs.Heads.{found_here, found_next, setting_is}
 use Rattle.rel_types.proofs.members.proc_fault.Goals as goal
 
 pub returns-in-Some : goal.returns-in-Some
 returns-in-Some c =
     let pass = pass_of c.args.pass in
     let proc = proc_of c.args.proc.now in
-    let globals = c.args.around.globals in
-    let same : setting_of globals c.of_proc-own.result ≡ proc_setting globals proc = same_setting (variables_seen globals.interface.now) (variables_seen globals.own.now) _ _ _ _ _ _ c.of_proc-own.ensures.params c.of_proc-own.ensures.locals c.of_proc-own.ensures.result in
     found_here _ _ _ _ c.in-Some.is (c.fault.ensures ∙ ap (fault_at pass proc.at) (c.either.ensures ∙ ap (either (flaws_of c.args.more)) c.in_ok-head.ensures))
-    ∙ ap (λ g. proc_fault (tables_seen c.args.tables.now) pass g (callees_in c.args.around) (flaws_of c.args.more) proc) same
+    ∙ ap (λ g. proc_fault (tables_seen c.args.tables.now) pass g (callees_in c.args.around) (flaws_of c.args.more) proc)
+    (setting_is c.args.around.globals c.of_proc-own.result _ _ _ c.of_proc-own.ensures.params c.of_proc-own.ensures.locals c.of_proc-own.ensures.result)
 
 pub returns : goal.returns
 returns c =
     let pass = pass_of c.args.pass in
     let proc = proc_of c.args.proc.now in
-    let globals = c.args.around.globals in
-    let own = c.of_proc-own.result in
-    let same : setting_of globals own ≡ proc_setting globals proc = same_setting (variables_seen globals.interface.now) (variables_seen globals.own.now) _ _ _ _ _ _ c.of_proc-own.ensures.params c.of_proc-own.ensures.locals c.of_proc-own.ensures.result in
     found_next _ _ _ _ c.in-None.is (c.fault.ensures ∙ ap (fault_at pass proc.at) (c.either.ensures ∙ ap (either (flaws_of c.args.more)) c.in_ok-head.ensures))
-    (c.in_ok-fault-in-None.ensures own c.in_ok-layers.ensures)
-    ∙ ap (λ g. proc_fault (tables_seen c.args.tables.now) pass g (callees_in c.args.around) (flaws_of c.args.more) proc) same
+    (c.in_ok-fault-in-None.ensures c.of_proc-own.result c.in_ok-layers.ensures)
+    ∙ ap (λ g. proc_fault (tables_seen c.args.tables.now) pass g (callees_in c.args.around) (flaws_of c.args.more) proc)
+    (setting_is c.args.around.globals c.of_proc-own.result _ _ _ c.of_proc-own.ensures.params c.of_proc-own.ensures.locals c.of_proc-own.ensures.result)
