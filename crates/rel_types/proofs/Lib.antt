@@ -25,4 +25,6 @@ pub mod Calling
 pub mod SameTables
 pub mod SameItems
 pub mod Both
-pub mod SameScopes
+pub mod SubjectScopes
+pub mod Layered
+pub mod SameMembers

@@ -5,3 +5,4 @@ pub mod Called
 pub mod OwnView
 pub mod Known
 pub mod SubjectView
+pub mod ModuleView

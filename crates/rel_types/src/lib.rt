@@ -7,6 +7,7 @@ mod bundles;
 mod called;
 mod clients;
 mod declarations;
+mod given;
 mod interfaces;
 mod items;
 mod judgements;

@@ -4,7 +4,7 @@ use Rattle.rel_lang.specs.State.{tables_of}
 use Rattle.rel_lang.specs.View.{rel_clause_of}
 use Rattle.rel_types.specs.Items as items
 use Rattle.rel_types.proofs.Settings.{rel_clause_same}
-use Rattle.rel_types.proofs.SameTables.{rel_clause_with}
+use Rattle.rel_types.proofs.SameItems.{rel_clause_with}
 use Rattle.rel_types.proofs.aligned.relation_fault.Goals as goal
 
 pub returns : goal.returns
