@@ -28,3 +28,4 @@ pub mod Both
 pub mod SubjectScopes
 pub mod Layered
 pub mod SameMembers
+pub mod InModules

@@ -1,11 +1,14 @@
 -- What is known of an interface that may not be there, and of the modules of a pair and their bodies.
-use Rattle.std.specs.Prelude.{◌≡◌, List, [], Option, Some, None, option_map}
-use Rattle.rel_lang.specs.Syntax.{Interface, Module, Bundle}
+use Rattle.std.specs.Prelude.{◌≡◌, ℕ, List, [], Option, Some, None, option_map}
+use Rattle.rel_lang.specs.Syntax.{Word, Align, Interface, Module, Bundle}
+use Rattle.rel_lang.specs.State.{tables_of}
 use Rattle.rel_lang.specs.Scope.{Setting}
 use Rattle.rel_lang.specs.Typed.{Signature}
+use Rattle.rel_flaws.specs.Flaws.{Pass, Fault}
+use Rattle.rel_flaws.specs.Alignments.{align_fault}
 use Rattle.rel_flaws.specs.View.{variables_seen}
 use Rattle.rel_flaws.specs.CodeView.{callees_seen}
-use Rattle.rel_types.specs.Items.{globals_of_interface, signatures_of}
+use Rattle.rel_types.specs.Items.{globals_of_interface, signatures_of, module_sides, method_of_side}
 use Rattle.rel_types.specs.Called.{SameCallees}
 use Rattle.rel_types.specs.Lookups.{SameLookups, SameSettings}
 use Rattle.rel_types.specs.Known.{BothAre, IsKnown, IsModuleSeen}
@@ -48,3 +51,7 @@ pub record AreModules (b : Bundle) (i : Option Interface) (m n : Option Module) 
   pub interface : IsGiven i s.interface.now
   pub left : BothAre IsModuleSeen m (option_map (λ l. l.now) s.left)
   pub right : BothAre IsModuleSeen n (option_map (λ r. r.now) s.right)
+
+-- how a method is aligned
+abbrev pub fault_of_method : Bundle → Pass → Option Interface → Option Module → Option Module → ℕ × Word × Align → Option Fault
+fault_of_method b pass i m n a = align_fault (tables_of b) pass (module_sides b pass (method_of_side i m a.1) (method_of_side i n a.1)) a.2

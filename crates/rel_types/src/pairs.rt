@@ -11,7 +11,7 @@ ghost use Rattle.rel_lang.specs.Syntax as syntax;
 ghost use Rattle.rel_lang.specs.View.{pair_of, align_of};
 ghost use Rattle.rel_types.specs.Items as items;
 ghost use Rattle.rel_types.specs.Known.{IsKnown, BothAre, IsInterfaceSeen, IsModuleSeen};
-ghost use Rattle.rel_types.specs.ModuleView.{IsNoInterface, IsGiven, HasOwn, IsBody, AreModules};
+ghost use Rattle.rel_types.specs.ModuleView.{IsNoInterface, IsGiven, HasOwn, IsBody, AreModules, fault_of_method};
 
 use crate::aligned::{BodySeen, aligned_fault, code_of_body, relation_fault};
 use crate::around::{Around, Globals};
@@ -193,8 +193,7 @@ fn methods_fault<'a>(
 ) -> Result<Option<Fault>, Memory>
     requires { IsNoInterface modules.none.now }
     ensures { IfOk result (λ f. (b : syntax.Bundle) (i : Option syntax.Interface) (m n : Option syntax.Module) → AreModules b i m n known.now modules.entry → option_map fault_of f
-        ≡ first_in (λ a. align_fault (tables_of b) (pass_of pass) (items.module_sides b (pass_of pass) (items.method_of_side i m a.1) (items.method_of_side i n a.1)) a.2)
-        (map (λ a. (a.0, a.1, align_of a.2)) methods.now)) }
+        ≡ first_in (fault_of_method b (pass_of pass) i m n) (map (λ a. (a.0, a.1, align_of a.2)) methods.now)) }
 {
     for method in methods.as_slice() {
         match method_fault(alloc, known, pass, modules, method.1.as_str(), &method.2)? {
@@ -203,4 +202,47 @@ fn methods_fault<'a>(
         }
     }
     Ok(None)
+}
+
+/// The interface of a module.
+fn interface_of<'a, 's>(
+    known: &'s Known<'a>,
+    module: Option<&'s ModuleSeen<'a>>,
+) -> Option<&'s InterfaceSeen<'a>>
+    ensures { (b : syntax.Bundle) (m : Option syntax.Module) → IsKnown b known.now → BothAre IsModuleSeen m (option_map (λ s. s.now) module.entry)
+        → BothAre IsInterfaceSeen (items.interface_of_module b m) (option_map (λ s. s.now) result) }
+{
+    match module {
+        Some(module) => known.interfaces.find(module.interface),
+        None => None,
+    }
+}
+
+/// Whether the two modules are there and have different interfaces.
+fn differ_in_interface(left: Option<&ModuleSeen<'_>>, right: Option<&ModuleSeen<'_>>) -> bool
+    ensures { (m n : Option syntax.Module) → BothAre IsModuleSeen m (option_map (λ s. s.now) left.entry) → BothAre IsModuleSeen n (option_map (λ s. s.now) right.entry)
+        → result ≡ items.differ_in_interface m n }
+{
+    match left {
+        Some(left) => match right {
+            Some(right) => left.interface != right.interface,
+            None => false,
+        },
+        None => false,
+    }
+}
+
+/// Whether the aligned methods have these names, in their order.
+fn are_named(names: &Vec<&str>, methods: &List<(u32, Name, Align)>) -> bool
+    ensures { result ≡ items.same_names (map (λ a. a.1) methods.now) (map (λ n. n.now) names.now.items) }
+{
+    if names.len() != methods.len() {
+        return false;
+    }
+    for i in 0..names.len() {
+        if methods.at(i).1.as_str() != names[i] {
+            return false;
+        }
+    }
+    true
 }

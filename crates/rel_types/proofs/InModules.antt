@@ -1,0 +1,64 @@
+-- What an interface gives, the bodies of a module, and what they can name.
+use Rattle.std.proofs.Common.{◌≡◌, Bool, true, false, if◌then◌else◌, List, [], ◌∷◌, map, Option, Some, None, option_map, refl, sym, ap, ◌∙◌}
+use Rattle.std.specs.Prelude.{bytes_eq}
+use Rattle.rel_lang.specs.Syntax.{Word, Decl, Sig, Interface, Module}
+use Rattle.rel_lang.specs.State.{find_named, Scope}
+use Rattle.rel_lang.specs.Scope.{Setting, module_globals, body_scope}
+use Rattle.rel_lang.specs.Typed.{Signature, signature_of_method}
+use Rattle.rel_lang.specs.Lookup.{find_method}
+use Rattle.rel_flaws.specs.Code.{Code}
+use Rattle.rel_flaws.specs.Flaws.{Fault, first_of, first_in}
+use Rattle.rel_types.specs.Items.{globals_of_interface, signatures_of, setting_in_module, code_in_module}
+use Rattle.rel_types.specs.Lookups.{SameCode}
+use Rattle.rel_types.specs.OwnView.{decls_in, type_in}
+use Rattle.rel_types.specs.ModuleView.{HasOwn, or_nothing}
+use Rattle.rel_types.specs.declared.own.Own.{Own}
+
+-- ---- methods
+
+pub signed : (x : Word) (qs : List Sig) → find_named (λ q. q.name) x (map signature_of_method qs) ≡ option_map signature_of_method (find_method x qs)
+signed x [] = refl
+signed x (q ∷ qs) =
+    elim (bytes_eq x q.name) as (λ b. (if b then Some (signature_of_method q) else find_named (λ r. r.name) x (map signature_of_method qs))
+    ≡ option_map signature_of_method (if b then Some q else find_method x qs)) [
+      | true ↦ refl
+      | false ↦ signed x qs
+    ]
+
+-- the variables of a body for a method that is there, and of one that is for none
+pub own_of_some : (i : Option Interface) (m : Module) (ls : List Decl) (o : Option Sig) (s : Signature) (w : Own) → Some s ≡ option_map signature_of_method o
+    → decls_in w.params ≡ s.params → decls_in w.locals ≡ ls → type_in w ≡ Some s.result → HasOwn (setting_in_module i m ls o) w
+own_of_some i m ls None s w e ps locals result = absurd (cc)
+own_of_some i m ls (Some q) s w e ps locals result =
+    let same : s ≡ signature_of_method q = cc in
+    record {
+      parameters = ps ∙ ap (λ t. t.params) same;
+      locals = locals;
+      result = result ∙ ap (λ t. Some t.result) same;
+    }
+
+pub own_of_none : (i : Option Interface) (m : Module) (ls : List Decl) (o : Option Sig) (w : Own) → None ≡ option_map signature_of_method o
+    → decls_in w.params ≡ [] → decls_in w.locals ≡ ls → type_in w ≡ None → HasOwn (setting_in_module i m ls o) w
+own_of_none i m ls None w e ps locals result = record { parameters = ps; locals = locals; result = result }
+own_of_none i m ls (Some q) w e ps locals result = absurd (cc)
+
+pub interface_in : (i : Option Interface) (m : Module) (ls : List Decl) (o : Option Sig) → (setting_in_module i m ls o).interface ≡ globals_of_interface i
+interface_in i m ls None = refl
+interface_in i m ls (Some q) = refl
+
+pub own_in : (i : Option Interface) (m : Module) (ls : List Decl) (o : Option Sig) → (setting_in_module i m ls o).own ≡ module_globals m
+own_in i m ls None = refl
+own_in i m ls (Some q) = refl
+
+-- ---- code
+
+pub in_module : (i : Option Interface) (o : Option Setting) (c : Code) → SameCode c (record { scope = body_scope (or_nothing o); callees = signatures_of i; may_call = false })
+    → SameCode c (code_in_module i o)
+in_module i None c k = k
+in_module i (Some g) c k = k
+
+-- ---- faults
+
+pub first_in_map : {X Y : Type 0} (fault : Y → Option Fault) (g : X → Y) (xs : List X) → first_in fault (map g xs) ≡ first_in (λ x. fault (g x)) xs
+first_in_map fault g [] = refl
+first_in_map fault g (x ∷ xs) = ap (first_of (fault (g x))) (first_in_map fault g xs)
