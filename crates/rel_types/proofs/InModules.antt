@@ -1,7 +1,10 @@
 -- What an interface gives, the bodies of a module, and what they can name.
-use Rattle.std.proofs.Common.{◌≡◌, Bool, true, false, if◌then◌else◌, List, [], ◌∷◌, map, Option, Some, None, option_map, refl, sym, ap, ◌∙◌}
+use Rattle.std.proofs.Common.{◌≡◌, Bool, true, false, if◌then◌else◌, List, [], ◌∷◌, map, ℕ, Option, Some, None, option_map, refl, sym, ap, ◌∙◌}
 use Rattle.std.specs.Prelude.{bytes_eq}
-use Rattle.rel_lang.specs.Syntax.{Word, Decl, Sig, Interface, Module}
+use Rattle.rel_list.specs.declared.Name.{Name}
+use Rattle.rel_lang.specs.declared.biprogram.Align as A
+use Rattle.rel_lang.specs.View.{align_of}
+use Rattle.rel_lang.specs.Syntax.{Word, Decl, Sig, Interface, Module, Align}
 use Rattle.rel_lang.specs.State.{find_named, Scope}
 use Rattle.rel_lang.specs.Scope.{Setting, module_globals, body_scope}
 use Rattle.rel_lang.specs.Typed.{Signature, signature_of_method}
@@ -58,6 +61,10 @@ in_module i None c k = k
 in_module i (Some g) c k = k
 
 -- ---- faults
+
+-- how a method is aligned, as it is written
+abbrev pub seen_method : ℕ × Name × A.Align → ℕ × Word × Align
+seen_method a = (a.0, a.1, align_of a.2)
 
 pub first_in_map : {X Y : Type 0} (fault : Y → Option Fault) (g : X → Y) (xs : List X) → first_in fault (map g xs) ≡ first_in (λ x. fault (g x)) xs
 first_in_map fault g [] = refl

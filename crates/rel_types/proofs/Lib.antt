@@ -29,3 +29,4 @@ pub mod SubjectScopes
 pub mod Layered
 pub mod SameMembers
 pub mod InModules
+pub mod SameNames
