@@ -1,5 +1,5 @@
 -- Two lists of the same names.
-use Rattle.std.proofs.Common.{◌≡◌, ℕ, suc, ◌+◌, ◌<◌, ◌≤◌, Bool, true, false, ◌&&◌, List, [], ◌∷◌, map, length, get_or, drop, refl, sym, ap, ap₂, ◌∙◌, arith}
+use Rattle.std.proofs.Common.{◌≡◌, ℕ, suc, ◌+◌, ◌<◌, ◌≤◌, Bool, true, false, not, ◌&&◌, List, [], ◌∷◌, map, length, get_or, drop, refl, sym, ap, ap₂, ◌∙◌, arith}
 use Rattle.std.specs.Prelude.{bytes_eq}
 use Rattle.std.proofs.Math.Seq.{drop-cons}
 use Rattle.std.proofs.lemmas.List.{get_or-map, length-map}
@@ -25,10 +25,26 @@ module _ {X Y : Type 0} (f : X → Word) (g : Y → Word) (xs : List X) (ys : Li
   abbrev pub same_from : ℕ → Bool
   same_from i = same_names (drop i (map f xs)) (drop i (map g ys))
 
-  pub one_more_name : (i : ℕ) (x : X) (y : Y) → i < length xs → i < length ys → x ≡ get_or xs i x → y ≡ get_or ys i y
+  pub one_more_name : (i : ℕ) (x : X) (y : Y) (d : X) (e : Y) → i < length xs → i < length ys → x ≡ get_or xs i d → y ≡ get_or ys i e
       → same_from i ≡ (bytes_eq (f x) (g y) && same_from (i + 1))
-  one_more_name i x y h k at_x at_y =
+  one_more_name i x y d e h k at_x at_y =
       let next : suc i ≡ i + 1 = omega arith in
-      front_names (map f xs) (map g ys) i (f x) (g y) (rw (length-map f xs) h) (rw (length-map g ys) k)
-      ∙ ap₂ (λ a b. bytes_eq a b && same_from (suc i)) (get_or-map f xs i x (f x) h ∙ ap f (sym at_x)) (get_or-map g ys i y (g y) k ∙ ap g (sym at_y))
+      front_names (map f xs) (map g ys) i (f d) (g e) (simp length-map h) (simp length-map k)
+      ∙ ap₂ (λ a b. bytes_eq a b && same_from (suc i)) (get_or-map f xs i d (f d) h ∙ ap f (sym at_x)) (get_or-map g ys i e (g e) k ∙ ap g (sym at_y))
       ∙ ap (λ n. bytes_eq (f x) (g y) && same_from n) next
+
+  pub names_differ : ¬ (length xs ≡ length ys) → false ≡ same_from 0
+  names_differ h = lengths_differ (map f xs) (map g ys) (λ e. h (simp length-map at e))
+
+  -- the same so far, and not here, or here too
+  pub other_name : (i : ℕ) (x : X) (y : Y) (d : X) (e : Y) → bytes_eq (f x) (g y) ≡ false → i < length xs → i < length ys → x ≡ get_or xs i d → y ≡ get_or ys i e
+      → same_from 0 ≡ same_from i → false ≡ same_from 0
+  other_name i x y d e differs h k at_x at_y same = sym (same ∙ one_more_name i x y d e h k at_x at_y ∙ ap (λ b. b && same_from (i + 1)) differs)
+
+  pub same_name : (i : ℕ) (x : X) (y : Y) (d : X) (e : Y) → bytes_eq (f x) (g y) ≡ true → i < length xs → i < length ys → x ≡ get_or xs i d → y ≡ get_or ys i e
+      → same_from 0 ≡ same_from i → same_from 0 ≡ same_from (i + 1)
+  same_name i x y d e is h k at_x at_y same = same ∙ one_more_name i x y d e h k at_x at_y ∙ ap (λ b. b && same_from (i + 1)) is
+
+pub from_not : (b c d : Bool) → c ≡ not b → c ≡ d → b ≡ not d
+from_not true c d e h = ap not (sym e ∙ h)
+from_not false c d e h = ap not (sym e ∙ h)

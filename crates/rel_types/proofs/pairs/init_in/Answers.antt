@@ -7,7 +7,7 @@ use Rattle.rel_types.proofs.pairs.init_in.Goals as goal
 
 pub returns-in-Some : goal.returns-in-Some
 returns-in-Some c i m given seen =
-    let there = both_some IsModuleSeen m _ c.in-Some.module.now (ap (option_map (λ s. s.now)) c.in-Some.is) seen in
+    let there = both_some IsModuleSeen m _ c.in-Some.seen.now (ap (option_map (λ s. s.now)) c.in-Some.is) seen in
     subst (λ o. IsBody (option_map (init_in_module i) o) (signatures_of i) c.body_in.result) (sym there.1)
     (c.body_in.ensures i there.0 (init_in_module i there.0) given there.2 (record { parameters = refl; locals = there.2.init; result = refl }) refl refl)
 

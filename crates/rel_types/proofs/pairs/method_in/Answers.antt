@@ -9,7 +9,7 @@ use Rattle.rel_types.proofs.pairs.method_in.Goals as goal
 pub returns-in-Some : goal.returns-in-Some
 returns-in-Some c i m given seen =
     let x = c.args.name.now in
-    let there = both_some IsModuleSeen m _ c.in-Some.module.now (ap (option_map (λ s. s.now)) c.in-Some.is) seen in
+    let there = both_some IsModuleSeen m _ c.in-Some.seen.now (ap (option_map (λ s. s.now)) c.in-Some.is) seen in
     subst (λ o. IsBody (option_and_then (λ n. option_map (λ d. method_in_module i n (x, d)) (find_body x n.methods)) o) (signatures_of i) c.method_of.result) (sym there.1)
     (c.method_of.ensures i there.0 given there.2)
 
