@@ -36,3 +36,6 @@ pub mod SameMembers
 pub mod Heads
 pub mod Untyped
 pub mod Named
+pub mod SubjectScopes
+pub mod InModules
+pub mod SameNames

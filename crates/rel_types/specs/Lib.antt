@@ -8,3 +8,4 @@ pub mod Numbers
 pub mod Told
 pub mod ByName
 pub mod SubjectView
+pub mod ModuleView

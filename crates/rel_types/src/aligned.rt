@@ -1,19 +1,26 @@
 //! Relation formulas and alignments, about two sides that may name different things.
 
-ghost use Rattle.std.specs.Prelude.{◌≡◌, option_map, IfOk};
+ghost use Rattle.std.specs.Prelude.{◌≡◌, List, option_map, IfOk};
 ghost use Rattle.rel_flaws.specs.View.{fault_of, pass_of, layers_seen};
 ghost use Rattle.rel_flaws.specs.CodeView.{code_of};
 ghost use Rattle.rel_flaws.specs.Alignments.{Sides as BothSides, align_fault as fault_of_align};
 ghost use Rattle.rel_lang.specs.Lookup.{judgements_of};
+ghost use Rattle.rel_lang.specs.Scope.{Setting, body_scope};
 ghost use Rattle.rel_lang.specs.State as state;
 ghost use Rattle.rel_lang.specs.State.{tables_of};
 ghost use Rattle.rel_lang.specs.Syntax as syntax;
+ghost use Rattle.rel_lang.specs.Typed.{Signature};
 ghost use Rattle.rel_lang.specs.View.{rel_clause_of, align_of};
 ghost use Rattle.rel_types.specs.Items as items;
 ghost use Rattle.rel_types.specs.Known.{IsKnown};
-ghost use Rattle.rel_types.specs.Lookups.{SameLookups, SameCode};
+ghost use Rattle.rel_types.specs.Lookups.{SameLookups, SameCode, SameSettings};
+ghost use Rattle.rel_types.specs.Called.{SameCallees};
+ghost use Rattle.rel_types.specs.OwnView.{AreLayers, setting_of, callees_in};
+ghost use Rattle.rel_types.specs.declared.own.Own as O;
 
+use crate::around::Around;
 use crate::known::Known;
+use crate::own::{Own, OwnLayers};
 use rel_flaws::alignment::align_fault;
 use rel_flaws::code::Code;
 use rel_flaws::kind::{Fault, Pass};
@@ -48,6 +55,31 @@ pub(crate) fn relation_fault<'a>(
         clause,
     )?;
     Ok(fault)
+}
+
+/// A body: what surrounds it, and what it has of its own.
+#[derive(Clone, Copy, Drop)]
+pub(crate) struct BodySeen<'a, 's> {
+    pub around: Around<'a, 's>,
+    pub own: Own<'a>,
+}
+
+/// What a body can name, whose own variables are in the layers.
+pub(crate) fn code_of_body<'a, 's>(
+    alloc: Global,
+    around: Around<'a, 's>,
+    own: &'s OwnLayers<'a>,
+    may_call: bool,
+) -> Code<'a, 's>
+    ensures { (o : O.Own) (g : Setting) (ss : List Signature) → AreLayers o own.now → SameSettings (setting_of around.entry.globals o) g → SameCallees (callees_in around.entry) ss
+        → SameCode (code_of result) (record { scope = body_scope g; callees = ss; may_call = may_call }) }
+{
+    Code {
+        scope: Scope::new(alloc, around.globals.body(own)),
+        procs: around.procs,
+        methods: around.methods,
+        may_call,
+    }
 }
 
 /// An alignment of the code of the two sides, which is that of procedures of these units where there are any.

@@ -1,28 +1,23 @@
 //! The first fault of a judgement.
 
 ghost use Rattle.std.specs.Prelude.{◌≡◌, Option, option_map, IfOk};
-ghost use Rattle.rel_flaws.specs.CodeView.{code_of};
 ghost use Rattle.rel_flaws.specs.View.{flaws_of, fault_of, pass_of};
 ghost use Rattle.rel_lang.specs.Lookup.{Subject, subject_of, find_unit};
 ghost use Rattle.rel_lang.specs.Syntax as syntax;
 ghost use Rattle.rel_lang.specs.View.{judgement_of};
 ghost use Rattle.rel_types.specs.Items as items;
 ghost use Rattle.rel_types.specs.Known.{IsKnown};
-ghost use Rattle.rel_types.specs.Lookups.{SameCode, SameSettings};
-ghost use Rattle.rel_types.specs.Called.{SameCallees};
-ghost use Rattle.rel_types.specs.OwnView.{AreLayers, setting_of, callees_in};
+ghost use Rattle.rel_types.specs.OwnView.{AreLayers};
 ghost use Rattle.rel_types.specs.SubjectView.{IsSide, IsNoUnit, IsUnitOf, IsAround};
 ghost use Rattle.rel_types.specs.SubjectView as subjects;
-ghost use Rattle.rel_types.specs.declared.own.Own as O;
 
-use crate::aligned::{aligned_fault, relation_fault};
+use crate::aligned::{aligned_fault, code_of_body, relation_fault};
 use crate::around::{Around, Globals};
 use crate::known::{Known, UnitSeen};
 use crate::own::{Own, OwnLayers};
-use rel_flaws::code::{Code, unknown_where};
+use rel_flaws::code::unknown_where;
 use rel_flaws::index::Index;
 use rel_flaws::kind::{Fault, Flaws, Pass};
-use rel_flaws::scope::Scope;
 use rel_lang::bundle::Judgement;
 use rel_list::Memory;
 use std::alloc::Global;
@@ -97,23 +92,6 @@ fn side_of<'a, 's>(
     }
 }
 
-/// What the body of the procedure can name.
-fn code_of_side<'a, 's>(
-    alloc: Global,
-    around: Around<'a, 's>,
-    own: &'s OwnLayers<'a>,
-) -> Code<'a, 's>
-    ensures { (side : O.Own) (o : Option Subject) → AreLayers side own.now → SameSettings (setting_of around.entry.globals side) (subjects.setting_of_subject o)
-        → SameCallees (callees_in around.entry) (subjects.callees_of_subject o) → SameCode (code_of result) (items.code_of_subject o) }
-{
-    Code {
-        scope: Scope::new(alloc, around.globals.body(own)),
-        procs: around.procs,
-        methods: around.methods,
-        may_call: true,
-    }
-}
-
 /// The clauses, then the alignment, where the own variables of each side are in its layers.
 fn seen_fault<'a>(
     alloc: Global,
@@ -159,8 +137,8 @@ fn seen_fault<'a>(
                 Some(fault) => Ok(Some(fault)),
                 None => {
                     let units = Some((judgement.left.0.as_str(), judgement.right.0.as_str()));
-                    let left = code_of_side(alloc, left, first);
-                    let right = code_of_side(alloc, right, second);
+                    let left = code_of_body(alloc, left, first, true);
+                    let right = code_of_body(alloc, right, second, true);
                     let fault = aligned_fault(known, pass, left, right, units, &judgement.align)?;
                     Ok(fault)
                 }

@@ -11,6 +11,7 @@ mod classes;
 mod clients;
 mod declarations;
 mod fault;
+mod given;
 mod interfaces;
 mod items;
 mod judgements;

@@ -6,8 +6,9 @@ use Rattle.rel_lang.specs.Lookup.{judgements_of}
 use Rattle.rel_lang.specs.View.{rel_clause_of, align_of}
 use Rattle.rel_types.specs.Items.{rel_clause_fault, pre_scope_of_subject, post_scope_of_subject, code_of_subject}
 use Rattle.rel_types.specs.OwnView.{setting_of}
+use Rattle.rel_types.specs.SubjectView.{setting_of_subject, callees_of_subject}
 use Rattle.rel_types.proofs.Both.{some_first, none_first}
-use Rattle.rel_types.proofs.SameScopes.{subject_pre, subject_post}
+use Rattle.rel_types.proofs.SubjectScopes.{subject_pre, subject_post, subject_code}
 use Rattle.rel_types.proofs.judgements.seen_fault.Goals as goal
 
 pub returns-in-Some : goal.returns-in-Some
@@ -45,7 +46,7 @@ returns-in_ok-fault-in-None-2 c b l r known left right =
       judgements = judgements_of b.items;
       units = Some (c.args.judgement.now.left.0, c.args.judgement.now.right.0);
     }) known
-    (c.code_of_side-left.ensures c.args.left.own l c.requires.left left.setting left.callees)
-    (c.code_of_side-right.ensures c.args.right.own r c.requires.right right.setting right.callees)
+    (subject_code _ l (c.code_of_body-left.ensures c.args.left.own (setting_of_subject l) (callees_of_subject l) c.requires.left left.setting left.callees))
+    (subject_code _ r (c.code_of_body-right.ensures c.args.right.own (setting_of_subject r) (callees_of_subject r) c.requires.right right.setting right.callees))
     refl
     (ap₂ {C = Option (Word × Word)} (λ x y. Some (x, y)) (sym c.as_str.ensures) (sym c.as_str-in-None-2.ensures))))

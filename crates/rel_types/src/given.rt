@@ -1,0 +1,70 @@
+//! What an interface gives to modules and clients, where it is there.
+
+ghost use Rattle.std.specs.Prelude.{◌≡◌, [], Option, map};
+ghost use Rattle.rel_flaws.specs.View.{layers_seen};
+ghost use Rattle.rel_lang.specs.Lookup.{find_method};
+ghost use Rattle.rel_lang.specs.Syntax as syntax;
+ghost use Rattle.rel_lang.specs.View.{decl_of};
+ghost use Rattle.rel_types.specs.Items.{setting_in_module, methods_of_interface};
+ghost use Rattle.rel_types.specs.ModuleView.{IsNoInterface, IsGiven, HasOwn};
+ghost use Rattle.rel_types.specs.OwnView.{globals_in};
+
+use crate::around::Globals;
+use crate::known::InterfaceSeen;
+use crate::own::Own;
+use rel_flaws::index::Index;
+use rel_flaws::scope::{Layers, Seen};
+use rel_lang::bundle::Decl;
+use rel_list::List;
+use std::alloc::Global;
+
+/// What no interface gives.
+pub(crate) fn no_interface<'a>(alloc: Global) -> InterfaceSeen<'a>
+    ensures { IsNoInterface result }
+{
+    InterfaceSeen {
+        globals: Index::new(alloc),
+        methods: Index::new(alloc),
+        names: Vec::new(alloc),
+    }
+}
+
+/// The globals, with no other variables.
+pub(crate) fn globals_alone<'a, 's>(
+    globals: Globals<'a, 's>,
+    none: &'s Index<'a, Seen<'a>>,
+) -> Layers<'a, 's>
+    requires { none.now ≡ [] }
+    ensures { layers_seen result ≡ globals_in globals.entry }
+{
+    Layers {
+        interface: globals.interface,
+        globals: globals.own,
+        params: none,
+        locals: none,
+        result: none,
+    }
+}
+
+/// The variables of a body for the method of this name. One for no method has no parameters and no result.
+pub(crate) fn own_of_method<'a>(
+    interface: &InterfaceSeen<'a>,
+    name: &str,
+    locals: &'a List<Decl>,
+) -> Own<'a>
+    ensures { (i : Option syntax.Interface) (m : syntax.Module) → IsGiven i interface.now
+        → HasOwn (setting_in_module i m (map decl_of locals.now) (find_method name.now (methods_of_interface i))) result }
+{
+    match interface.methods.get(name) {
+        Some(method) => Own {
+            params: Some(method.params),
+            locals: Some(locals),
+            result: Some(method.result),
+        },
+        None => Own {
+            params: None,
+            locals: Some(locals),
+            result: None,
+        },
+    }
+}
