@@ -32,6 +32,7 @@ pub mod KnownTables
 pub mod Both
 pub mod SameScopes
 pub mod Layered
+pub mod Clashes
 pub mod SameMembers
 pub mod Heads
 pub mod Untyped

@@ -14,16 +14,21 @@ use Rattle.rel_types.specs.Lookups.{SameLookups, SameNames}
 use Rattle.rel_types.proofs.Declaring.{same_then, seen_in}
 use Rattle.rel_types.proofs.Repeats.{among_both, named_in, same_names_after, repeats_same, repeats_both}
 
+-- the locals, behind the parameters
+pub repeated_locals : (before none own : List Word) (ps ls : List Decl) (b : Bool) → none ≡ [] → SameNames own (declared_names ps ++ none)
+    → b ≡ repeats (own ++ before) (declared_names ls) → b ≡ repeats (declared_names ps ++ before) (declared_names ls)
+repeated_locals before none own ps ls b is_none added second =
+    let names : List Word = declared_names ps in
+    let of_own : SameNames own names = λ x. added x ∙ ap (is_among x) (ap (λ l. names ++ l) is_none ∙ append-nil names) in
+    second ∙ repeats_same (own ++ before) (names ++ before) (same_names_after own before names before of_own (λ x. refl)) (declared_names ls)
+
 -- parameters, then locals
 pub repeated_own : (before none own : List Word) (ps ls : List Decl) (a b : Bool) → none ≡ []
     → a ≡ repeats (none ++ before) (declared_names ps) → SameNames own (declared_names ps ++ none) → b ≡ repeats (own ++ before) (declared_names ls)
     → (a || b) ≡ repeats before (declared_names (ps ++ ls))
 repeated_own before none own ps ls a b is_none first added second =
-    let names : List Word = declared_names ps in
-    let of_own : SameNames own names = λ x. added x ∙ ap (is_among x) (ap (λ l. names ++ l) is_none ∙ append-nil names) in
-    ap₂ (λ x y. x || y) (first ∙ ap (λ l. repeats (l ++ before) names) is_none)
-    (second ∙ repeats_same (own ++ before) (names ++ before) (same_names_after own before names before of_own (λ x. refl)) (declared_names ls))
-    ∙ sym (ap (repeats before) (map-append _ ps ls) ∙ repeats_both before names (declared_names ls))
+    ap₂ (λ x y. x || y) (first ∙ ap (λ l. repeats (l ++ before) (declared_names ps)) is_none) (repeated_locals before none own ps ls b is_none added second)
+    ∙ sym (ap (repeats before) (map-append _ ps ls) ∙ repeats_both before (declared_names ps) (declared_names ls))
 
 -- declared where nothing else is
 pub alone : (after before extra base : Scope) → before ≡ [] → SameLookups after (before ++ extra) → SameLookups extra base → SameLookups after base

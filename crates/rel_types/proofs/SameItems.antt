@@ -9,7 +9,7 @@ use Rattle.rel_lang.specs.Typed.{Signature, signature_of_proc}
 use Rattle.rel_flaws.specs.Flaws.{Flaws, flawless, either, Pass, Fault, fault_at, first_of}
 use Rattle.rel_flaws.specs.Inference.{is_among, names_unknown_class, have_unknown_types}
 use Rattle.rel_flaws.specs.Code.{unknown_where}
-use Rattle.rel_types.specs.Items.{repeats, declared_names, seen_by_members, twice_where, first_named, globals_of_interface, signatures_of, misses_methods, init_in_module, method_in_module, setting_in_client, callees_in_client, flaws_of_client_proc, flaws_of_place, flaws_of_effect, flaws_of_all, flaws_of_globals, flaws_of_head, clause_fault, rel_clause_fault, clauses_fault, proc_fault, module_body_fault, class_fault, sig_fault, method_fault, interface_fault, unit_fault, module_fault, client_fault}
+use Rattle.rel_types.specs.Items.{repeats, declared_names, seen_by_members, twice_where, first_named, globals_of_interface, signatures_of, misses_methods, init_in_module, method_in_module, clashes_in_module, setting_in_client, callees_in_client, flaws_of_client_proc, flaws_of_place, flaws_of_effect, flaws_of_all, flaws_of_globals, flaws_of_head, clause_fault, rel_clause_fault, clauses_fault, proc_fault, module_body_fault, class_fault, sig_fault, method_fault, interface_fault, unit_fault, module_fault, client_fault}
 use Rattle.rel_types.specs.Lookups.{SameTables}
 use Rattle.rel_types.proofs.Knowledge.{first_in_same}
 use Rattle.rel_types.proofs.SameTables.{field_with, formula_with, rel_with, region_with, block_with}
@@ -76,8 +76,7 @@ module _ (t u : Tables) (k : SameTables t u) where
   pub module_body_with : (pass : Pass) (g : Setting) (callees : List Signature) (b : Body) → module_body_fault t pass g callees b ≡ module_body_fault u pass g callees b
   module_body_with pass g callees b =
       ap₂ first_of
-      (ap {A = Bool} (λ x. fault_at pass b.at (record flawless { twice = repeats (seen_by_members (globals_of g)) (declared_names (g.parameters ++ g.locals)); unknown = x }))
-      (types_with g.locals))
+      (ap {A = Bool} (λ x. fault_at pass b.at (record flawless { twice = clashes_in_module g; unknown = x })) (types_with g.locals))
       (block_with t u k pass (record { scope = body_scope g; callees = callees; may_call = false }) b.commands)
 
   -- ---- classes, interfaces and units

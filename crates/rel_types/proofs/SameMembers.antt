@@ -1,5 +1,6 @@
 -- Procedures, methods and bodies have the same faults in settings that see the same.
 <<<<<<< HEAD
+<<<<<<< HEAD
 use Rattle.std.proofs.Common.{◌≡◌, Bool, true, false, ◌||◌, List, [], ◌∷◌, ◌++◌, map, Option, Some, None, ap, ap₂, ◌∙◌, subst}
 use Rattle.std.specs.Prelude.{bytes_eq}
 use Rattle.rel_lang.specs.Syntax.{Word, Ty, Decl, Effect, Spec, Body, Proc, Sig, Interface, UnitItem}
@@ -11,20 +12,30 @@ use Rattle.rel_flaws.specs.Inference.{is_among, names_unknown_class, have_unknow
 use Rattle.rel_types.specs.Items.{repeats, declared_names, seen_by_members, flaws_of_effect, flaws_of_globals, flaws_of_head, clauses_fault, proc_fault, module_body_fault, sig_fault, method_fault, first_named, twice_where}
 =======
 use Rattle.std.proofs.Common.{◌≡◌, Bool, true, false, ◌||◌, List, [], ◌∷◌, ◌++◌, Option, None, ap, ap₂, ◌∙◌, subst}
+=======
+use Rattle.std.proofs.Common.{◌≡◌, Bool, true, false, ◌||◌, List, [], ◌∷◌, ◌++◌, Option, None, refl, ap, ap₂, ◌∙◌, subst}
+>>>>>>> 0ad97cbe5a3fe62bdffb27a920e5b3b90882781e
 use Rattle.std.specs.Prelude.{bytes_eq}
+use Rattle.std.specs.List.{list_any}
 use Rattle.rel_lang.specs.Syntax.{Word, Ty, Decl, Effect, Spec, Body, Proc, Sig}
 use Rattle.rel_lang.specs.State.{Tables, Scope, ByCall}
 use Rattle.rel_lang.specs.Scope.{Setting, result_name, declared, result_variable, globals_of, parameters_of, own_variables, pre_scope, post_scope, body_scope}
 use Rattle.rel_lang.specs.Typed.{Signature}
 use Rattle.rel_flaws.specs.Flaws.{Flaws, flawless, either, Pass, Fault, fault_at, first_of}
+<<<<<<< HEAD
 use Rattle.rel_flaws.specs.Inference.{names_unknown_class, have_unknown_types}
 use Rattle.rel_types.specs.Items.{repeats, declared_names, seen_by_members, flaws_of_effect, flaws_of_globals, flaws_of_head, clauses_fault, proc_fault, module_body_fault, sig_fault, first_named}
 >>>>>>> 5da03aa9370b7763b6165935e4faa775e736a3ee
+=======
+use Rattle.rel_flaws.specs.Inference.{is_in_scope, names_unknown_class, have_unknown_types}
+use Rattle.rel_types.specs.Items.{repeats, declared_names, seen_by_members, flaws_of_effect, flaws_of_globals, flaws_of_head, clashes_in_module, clauses_fault, proc_fault, module_body_fault, sig_fault, first_named}
+>>>>>>> 0ad97cbe5a3fe62bdffb27a920e5b3b90882781e
 use Rattle.rel_types.specs.Lookups.{SameLookups, SameNames, SameCode, SameSettings}
 use Rattle.rel_types.specs.Called.{SameCallees}
 use Rattle.rel_types.proofs.Lookups.{same_after}
 use Rattle.rel_types.proofs.Declaring.{same_self}
-use Rattle.rel_types.proofs.Repeats.{same_names_of, repeats_same}
+use Rattle.rel_types.proofs.Repeats.{same_names_of, same_names_after, repeats_same}
+use Rattle.rel_types.proofs.Clashes.{declared_same}
 use Rattle.rel_types.proofs.Settings.{clause_same, effect_same, all_same}
 use Rattle.rel_types.proofs.Knowledge.{block_same}
 <<<<<<< HEAD
@@ -99,15 +110,29 @@ module _ (g h : Setting) (k : SameSettings g h) where
   sig_same tables pass more q =
       ap₂ first_of (ap (λ f. fault_at pass q.at (either more f)) (head_same tables q.spec.writes q.result)) (clauses_same tables pass q.spec)
 
+  own_clashes : clashes_in_module g ≡ clashes_in_module h
+  own_clashes =
+      let names : List Word = declared_names h.parameters in
+      ap₂ (λ a b. a || b)
+      (declared_same g.own h.own k.own g.parameters ∙ ap (list_any (λ d. is_in_scope d.name h.own)) k.parameters)
+      (ap₂ (λ ps ls. repeats (declared_names ps ++ seen_by_members (globals_of g)) (declared_names ls)) k.parameters k.locals
+      ∙ repeats_same (names ++ seen_by_members (globals_of g)) (names ++ seen_by_members (globals_of h))
+      (same_names_after names (seen_by_members (globals_of g)) names (seen_by_members (globals_of h)) (λ x. refl) (members_same (globals_of g) (globals_of h) same_globals))
+      (declared_names h.locals))
+
   pub module_body_same : (tables : Tables) (pass : Pass) (cs ds : List Signature) → SameCallees cs ds → (b : Body)
       → module_body_fault tables pass g cs b ≡ module_body_fault tables pass h ds b
   module_body_same tables pass cs ds l b =
       ap₂ first_of
+<<<<<<< HEAD
       (ap₂ {C = Option Fault} (λ t u. fault_at pass b.at (record flawless { twice = t; unknown = u })) own_names (ap (have_unknown_types tables) k.locals))
 <<<<<<< HEAD
       (block_same tables pass (record { scope = body_scope g; callees = cs; may_call = false }) (record { scope = body_scope h; callees = ds; may_call = false })
       (same_code cs ds false l) b.commands)
 =======
+=======
+      (ap₂ {C = Option Fault} (λ t u. fault_at pass b.at (record flawless { twice = t; unknown = u })) own_clashes (ap (have_unknown_types tables) k.locals))
+>>>>>>> 0ad97cbe5a3fe62bdffb27a920e5b3b90882781e
       (block_same tables pass (record { scope = body_scope g; callees = cs; may_call = false }) (record { scope = body_scope h; callees = ds; may_call = false }) (same_code cs ds false l) b.commands)
 >>>>>>> 5da03aa9370b7763b6165935e4faa775e736a3ee
 

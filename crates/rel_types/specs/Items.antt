@@ -1,5 +1,6 @@
 -- What items and their members have wrong, and the first fault of a bundle.
 use Rattle.std.specs.Prelude.{Bool, true, false, not, ◌&&◌, ◌||◌, List, [], ◌∷◌, ◌++◌, map, Option, Some, None, is_none, bytes_eq, option_map, option_and_then}
+use Rattle.std.specs.List.{list_any}
 use Rattle.rel_lang.specs.Syntax.{Word, Ty, Decl, Place, Effect, Global, Locations, Clause, RelClause, Spec, Body, Proc, Sig, ClassItem, Interface, Module, UnitItem, Client, Judgement, ModulePair, Item, OfClass, OfInterface, OfModule, OfUnit, OfClient, OfJudgement, OfPair, Bundle}
 use Rattle.rel_lang.specs.State.{Tables, tables_of, Scope}
 use Rattle.rel_lang.specs.Scope.{Setting, result_name, interface_globals, client_globals, module_globals, globals_of, pre_scope, post_scope, body_scope, unit_setting, signature_setting}
@@ -68,6 +69,13 @@ init_in_module i m = setting_in_module i m m.init.locals None
 
 abbrev pub method_in_module : Option Interface → Module → Word × Body → Setting
 method_in_module i m b = setting_in_module i m b.1.locals (find_method b.0 (methods_of_interface i))
+
+-- What a body in a module declares again of its own doing: a parameter has the name of one of the module's own globals, or a local has a name that
+-- stands before it. What else the parameters have wrong is wrong in the interface.
+abbrev pub clashes_in_module : Setting → Bool
+clashes_in_module g =
+    list_any (λ d. is_in_scope d.name g.own) g.parameters
+    || repeats (declared_names g.parameters ++ seen_by_members (globals_of g)) (declared_names g.locals)
 
 abbrev pub setting_in_client : Option Interface → Client → Proc → Setting
 setting_in_client i c q =
@@ -140,7 +148,7 @@ module _ (tables : Tables) where
     abbrev pub module_body_fault : Setting → List Signature → Body → Option Fault
     module_body_fault g callees b =
         first_of (fault_at pass b.at (record flawless {
-          twice = repeats (seen_by_members (globals_of g)) (declared_names (g.parameters ++ g.locals));
+          twice = clashes_in_module g;
           unknown = have_unknown_types tables g.locals;
         }))
         (block_fault tables pass (record { scope = body_scope g; callees = callees; may_call = false }) b.commands)

@@ -1,12 +1,14 @@
 //! What a body has of its own.
 
 ghost use Rattle.std.specs.Prelude.{◌≡◌, [], ◌++◌, true, false, Some, OnOk, IfOk, map, option_map};
+ghost use Rattle.std.specs.List.{list_any};
 ghost use Rattle.rel_lang.specs.Scope.{globals_of, declared, result_variable};
 ghost use Rattle.rel_lang.specs.State.{ByCall};
 ghost use Rattle.rel_lang.specs.View.{decl_of, type_of};
 ghost use Rattle.rel_flaws.specs.Inference as inference;
+ghost use Rattle.rel_flaws.specs.Inference.{is_in_scope};
 ghost use Rattle.rel_flaws.specs.View.{tables_seen, type_seen, variables_seen};
-ghost use Rattle.rel_types.specs.Items.{repeats, seen_by_members, declared_names};
+ghost use Rattle.rel_types.specs.Items.{repeats, seen_by_members, declared_names, clashes_in_module};
 ghost use Rattle.rel_types.specs.OwnView.{AreLayers, decls_in, type_in, globals_in, setting_of};
 ghost use Rattle.rel_types.specs.Lookups.{SameLookups, SameNames, names_in};
 
@@ -88,6 +90,17 @@ impl<'a> Own<'a> {
         let locals = add_own_names(globals, &mut names, self.locals)?;
         Ok(params | locals)
     }
+
+    /// Whether a parameter has the name of one of a module's own globals, or a local has a name that stands before it, or that is a global's, or `result`.
+    /// What else repeats among the parameters is the interface's fault.
+    pub fn clashes_in_module(self, alloc: Global, globals: Globals<'a, '_>) -> Result<bool, Memory>
+        ensures { IfOk result (λ r. r ≡ clashes_in_module (setting_of globals.entry self.entry)) }
+    {
+        let mut names = Index::new(alloc);
+        add_own_names(globals, &mut names, self.params)?;
+        let locals = add_own_names(globals, &mut names, self.locals)?;
+        Ok(has_names_of(globals.own, self.params) | locals)
+    }
 }
 
 /// The declared variables by name, where there are any.
@@ -134,6 +147,27 @@ fn add_own_names<'a>(
     match decls {
         Some(decls) => add_names(Some(globals), own, decls),
         None => Ok(false),
+    }
+}
+
+/// Whether a declaration has the name of one of these variables.
+fn are_named(variables: &Index<'_, Seen<'_>>, decls: &List<Decl>) -> bool
+    ensures { result ≡ list_any (λ d. is_in_scope d.name (variables_seen variables.now)) (map decl_of decls.now) }
+{
+    let mut found = false;
+    for decl in decls.as_slice() {
+        found = found | variables.has(decl.name.as_str());
+    }
+    found
+}
+
+/// Whether one of the declarations, where there are any, has the name of one of these variables.
+fn has_names_of(variables: &Index<'_, Seen<'_>>, decls: Option<&List<Decl>>) -> bool
+    ensures { result ≡ list_any (λ d. is_in_scope d.name (variables_seen variables.now)) (decls_in decls.entry) }
+{
+    match decls {
+        Some(decls) => are_named(variables, decls),
+        None => false,
     }
 }
 
