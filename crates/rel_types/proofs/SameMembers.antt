@@ -1,35 +1,14 @@
 -- Procedures, methods and bodies have the same faults in settings that see the same.
-<<<<<<< HEAD
-<<<<<<< HEAD
-use Rattle.std.proofs.Common.{◌≡◌, Bool, true, false, ◌||◌, List, [], ◌∷◌, ◌++◌, map, Option, Some, None, ap, ap₂, ◌∙◌, subst}
+use Rattle.std.proofs.Common.{◌≡◌, Bool, true, false, ◌||◌, List, [], ◌∷◌, ◌++◌, map, Option, Some, None, refl, ap, ap₂, ◌∙◌, subst}
 use Rattle.std.specs.Prelude.{bytes_eq}
+use Rattle.std.specs.List.{list_any}
 use Rattle.rel_lang.specs.Syntax.{Word, Ty, Decl, Effect, Spec, Body, Proc, Sig, Interface, UnitItem}
 use Rattle.rel_lang.specs.State.{Tables, Scope, ByCall}
 use Rattle.rel_lang.specs.Scope.{Setting, result_name, declared, result_variable, globals_of, parameters_of, own_variables, pre_scope, post_scope, body_scope, interface_globals, unit_globals, unit_setting, signature_setting}
 use Rattle.rel_lang.specs.Typed.{Signature, signature_of_proc}
 use Rattle.rel_flaws.specs.Flaws.{Flaws, flawless, either, Pass, Fault, fault_at, first_of}
-use Rattle.rel_flaws.specs.Inference.{is_among, names_unknown_class, have_unknown_types}
-use Rattle.rel_types.specs.Items.{repeats, declared_names, seen_by_members, flaws_of_effect, flaws_of_globals, flaws_of_head, clauses_fault, proc_fault, module_body_fault, sig_fault, method_fault, first_named, twice_where}
-=======
-use Rattle.std.proofs.Common.{◌≡◌, Bool, true, false, ◌||◌, List, [], ◌∷◌, ◌++◌, Option, None, ap, ap₂, ◌∙◌, subst}
-=======
-use Rattle.std.proofs.Common.{◌≡◌, Bool, true, false, ◌||◌, List, [], ◌∷◌, ◌++◌, Option, None, refl, ap, ap₂, ◌∙◌, subst}
->>>>>>> 0ad97cbe5a3fe62bdffb27a920e5b3b90882781e
-use Rattle.std.specs.Prelude.{bytes_eq}
-use Rattle.std.specs.List.{list_any}
-use Rattle.rel_lang.specs.Syntax.{Word, Ty, Decl, Effect, Spec, Body, Proc, Sig}
-use Rattle.rel_lang.specs.State.{Tables, Scope, ByCall}
-use Rattle.rel_lang.specs.Scope.{Setting, result_name, declared, result_variable, globals_of, parameters_of, own_variables, pre_scope, post_scope, body_scope}
-use Rattle.rel_lang.specs.Typed.{Signature}
-use Rattle.rel_flaws.specs.Flaws.{Flaws, flawless, either, Pass, Fault, fault_at, first_of}
-<<<<<<< HEAD
-use Rattle.rel_flaws.specs.Inference.{names_unknown_class, have_unknown_types}
-use Rattle.rel_types.specs.Items.{repeats, declared_names, seen_by_members, flaws_of_effect, flaws_of_globals, flaws_of_head, clauses_fault, proc_fault, module_body_fault, sig_fault, first_named}
->>>>>>> 5da03aa9370b7763b6165935e4faa775e736a3ee
-=======
-use Rattle.rel_flaws.specs.Inference.{is_in_scope, names_unknown_class, have_unknown_types}
-use Rattle.rel_types.specs.Items.{repeats, declared_names, seen_by_members, flaws_of_effect, flaws_of_globals, flaws_of_head, clashes_in_module, clauses_fault, proc_fault, module_body_fault, sig_fault, first_named}
->>>>>>> 0ad97cbe5a3fe62bdffb27a920e5b3b90882781e
+use Rattle.rel_flaws.specs.Inference.{is_among, is_in_scope, names_unknown_class, have_unknown_types}
+use Rattle.rel_types.specs.Items.{repeats, declared_names, seen_by_members, flaws_of_effect, flaws_of_globals, flaws_of_head, clashes_in_module, clauses_fault, proc_fault, module_body_fault, sig_fault, method_fault, first_named, twice_where}
 use Rattle.rel_types.specs.Lookups.{SameLookups, SameNames, SameCode, SameSettings}
 use Rattle.rel_types.specs.Called.{SameCallees}
 use Rattle.rel_types.proofs.Lookups.{same_after}
@@ -38,10 +17,7 @@ use Rattle.rel_types.proofs.Repeats.{same_names_of, same_names_after, repeats_sa
 use Rattle.rel_types.proofs.Clashes.{declared_same}
 use Rattle.rel_types.proofs.Settings.{clause_same, effect_same, all_same}
 use Rattle.rel_types.proofs.Knowledge.{block_same}
-<<<<<<< HEAD
 use Rattle.rel_types.proofs.Named.{told}
-=======
->>>>>>> 5da03aa9370b7763b6165935e4faa775e736a3ee
 
 -- ---- scopes
 
@@ -99,12 +75,8 @@ module _ (g h : Setting) (k : SameSettings g h) where
   proc_same tables pass cs ds l more q =
       ap₂ first_of (ap (λ f. fault_at pass q.at (either more f)) (head_same tables q.spec.writes q.result))
       (ap₂ first_of (clauses_same tables pass q.spec)
-<<<<<<< HEAD
       (block_same tables pass (record { scope = body_scope g; callees = cs; may_call = true }) (record { scope = body_scope h; callees = ds; may_call = true })
       (same_code cs ds true l) q.body.commands))
-=======
-      (block_same tables pass (record { scope = body_scope g; callees = cs; may_call = true }) (record { scope = body_scope h; callees = ds; may_call = true }) (same_code cs ds true l) q.body.commands))
->>>>>>> 5da03aa9370b7763b6165935e4faa775e736a3ee
 
   pub sig_same : (tables : Tables) (pass : Pass) (more : Flaws) (q : Sig) → sig_fault tables pass g more q ≡ sig_fault tables pass h more q
   sig_same tables pass more q =
@@ -124,17 +96,9 @@ module _ (g h : Setting) (k : SameSettings g h) where
       → module_body_fault tables pass g cs b ≡ module_body_fault tables pass h ds b
   module_body_same tables pass cs ds l b =
       ap₂ first_of
-<<<<<<< HEAD
-      (ap₂ {C = Option Fault} (λ t u. fault_at pass b.at (record flawless { twice = t; unknown = u })) own_names (ap (have_unknown_types tables) k.locals))
-<<<<<<< HEAD
+      (ap₂ {C = Option Fault} (λ t u. fault_at pass b.at (record flawless { twice = t; unknown = u })) own_clashes (ap (have_unknown_types tables) k.locals))
       (block_same tables pass (record { scope = body_scope g; callees = cs; may_call = false }) (record { scope = body_scope h; callees = ds; may_call = false })
       (same_code cs ds false l) b.commands)
-=======
-=======
-      (ap₂ {C = Option Fault} (λ t u. fault_at pass b.at (record flawless { twice = t; unknown = u })) own_clashes (ap (have_unknown_types tables) k.locals))
->>>>>>> 0ad97cbe5a3fe62bdffb27a920e5b3b90882781e
-      (block_same tables pass (record { scope = body_scope g; callees = cs; may_call = false }) (record { scope = body_scope h; callees = ds; may_call = false }) (same_code cs ds false l) b.commands)
->>>>>>> 5da03aa9370b7763b6165935e4faa775e736a3ee
 
 -- ---- items
 
@@ -149,7 +113,6 @@ pub first_named_same : {X : Type 0} (name : X → Word) (f f' : List Word → X 
     → (seen : List Word) (xs : List X) → first_named name f seen xs ≡ first_named name f' seen xs
 first_named_same name f f' h seen [] = λ i. None
 first_named_same name f f' h seen (x ∷ xs) = ap₂ first_of (h seen x) (first_named_same name f f' h (name x ∷ seen) xs)
-<<<<<<< HEAD
 
 -- the procedures of a unit
 abbrev pub proc_in : Scope → Scope → Proc → Setting
@@ -177,5 +140,3 @@ methods_same tables pass i globals none h k =
     first_named_same (λ q. q.name) (told (λ q. q.name) (λ more q. sig_fault tables pass (method_in globals none q) more q)) (method_fault tables pass i)
     (λ seen q. sig_same (method_in globals none q) (signature_setting i q)
     (record { interface = h; own = k; parameters = λ j. q.params; locals = λ j. []; result = λ j. Some q.result }) tables pass (twice_where (is_among q.name seen)) q) [] i.methods
-=======
->>>>>>> 5da03aa9370b7763b6165935e4faa775e736a3ee

@@ -211,7 +211,7 @@ pub(crate) fn module_body_fault<'a>(
 {
     let layers = own.layers(alloc)?;
     let flaws = Flaws {
-        twice: own.repeats(alloc, around.globals)?,
+        twice: own.clashes_in_module(alloc, around.globals)?,
         unknown: unknown_in(tables, own.locals),
         ..Flaws::none()
     };
