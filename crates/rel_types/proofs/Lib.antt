@@ -30,7 +30,6 @@ pub mod Knowing
 pub mod KnownItems
 pub mod KnownTables
 pub mod Both
-pub mod SameScopes
 pub mod Layered
 pub mod Clashes
 pub mod SameMembers

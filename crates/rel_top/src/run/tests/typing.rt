@@ -12,7 +12,7 @@ use std::test::Fail;
 type Row<'a> = (&'a str, &'a str, &'a str, &'a str);
 
 /// What is wrong with items by themselves, and with interfaces.
-const ITEMS: [Row<'_>; 18] = [
+const ITEMS: [Row<'_>; 19] = [
     (
         "an item that is called like one of another kind",
         "class A { } unit B { } ",
@@ -90,6 +90,13 @@ const ITEMS: [Row<'_>; 18] = [
         "interface I { boundary { } init ensures true writes { } \
         method m ( ) : int requires true ensures true writes { } ; ",
         "method m ( ) : rgn requires true ensures true writes { } ; }",
+        "Twice",
+    ),
+    (
+        "a method's parameter that is declared again, behind a module's body for the method",
+        "module M : I { invariant true ; init { } method m { } } \
+        interface I { boundary { } init ensures true writes { } ",
+        "method m ( n : int , n : int ) : int requires true ensures true writes { } ; }",
         "Twice",
     ),
     (
