@@ -119,7 +119,7 @@ fn method_of<'a, 's>(
         Some(locals) => body_in(
             none,
             interface,
-            module,
+            seen,
             own_of_method(interface, name, locals),
         ),
         None => no_body(none, interface),
