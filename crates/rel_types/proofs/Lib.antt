@@ -30,3 +30,4 @@ pub mod Layered
 pub mod SameMembers
 pub mod InModules
 pub mod SameNames
+pub mod InClients

@@ -6,3 +6,4 @@ pub mod OwnView
 pub mod Known
 pub mod SubjectView
 pub mod ModuleView
+pub mod ClientView

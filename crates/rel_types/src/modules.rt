@@ -13,8 +13,8 @@ ghost use Rattle.rel_types.specs.OwnView.{globals_in};
 
 use crate::around::{Around, Globals};
 use crate::declarations::add_all;
-use crate::given::{globals_alone, no_interface, own_of_method};
-use crate::items::{clause_fault, flaws_of_globals};
+use crate::given::{flaws_of_declared, globals_alone, no_interface, own_of_method};
+use crate::items::clause_fault;
 use crate::known::InterfaceSeen;
 use crate::members::module_body_fault;
 use crate::own::Own;
@@ -75,11 +75,7 @@ fn flaws_of_place<'a, 's>(
     ensures { IfOk result (λ f. (i : Option syntax.Interface) → IsGiven i given.now → BothAre IsInterfaceSeen i (option_map (λ s. s.now) interface.entry)
         → flaws_of f ≡ flaws_of_module (tables_seen tables.now) i (module_of item.now)) }
 {
-    let before = Globals {
-        interface: &given.globals,
-        own: &none.globals,
-    };
-    let globals = flaws_of_globals(alloc, tables, before, &item.globals)?;
+    let globals = flaws_of_declared(alloc, tables, none, given, &item.globals)?;
     Ok(globals.either(flaws_of_methods(interface, &item.methods)))
 }
 
