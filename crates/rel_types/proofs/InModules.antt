@@ -1,20 +1,22 @@
 -- What an interface gives, the bodies of a module, and what they can name.
-use Rattle.std.proofs.Common.{◌≡◌, Bool, true, false, if◌then◌else◌, List, [], ◌∷◌, map, ℕ, Option, Some, None, option_map, refl, sym, ap, subst, ◌∙◌}
+use Rattle.std.proofs.Common.{◌≡◌, Bool, true, false, if◌then◌else◌, List, [], ◌∷◌, ◌++◌, append-nil, map, ℕ, Option, Some, None, option_map, refl, sym, ap, subst, ◌∙◌}
 use Rattle.std.specs.Prelude.{bytes_eq, unwrap_or}
 use Rattle.rel_list.specs.declared.Name.{Name}
 use Rattle.rel_lang.specs.declared.biprogram.Align as A
-use Rattle.rel_lang.specs.View.{align_of}
-use Rattle.rel_lang.specs.Syntax.{Word, Decl, Sig, Interface, Module, Align, Bundle}
-use Rattle.rel_lang.specs.State.{find_named, find_variable}
-use Rattle.rel_lang.specs.Scope.{Setting, module_globals, globals_of, body_scope}
+use Rattle.rel_lang.specs.declared.bundle.Body as B
+use Rattle.rel_lang.specs.View.{align_of, body_of}
+use Rattle.rel_lang.specs.Syntax.{Word, Decl, Body, Sig, Interface, Module, Align, Bundle}
+use Rattle.rel_lang.specs.State.{find_named, find_variable, Scope, Owner, ByQuantifier}
+use Rattle.rel_lang.specs.Scope.{Setting, declared, module_globals, globals_of, body_scope}
 use Rattle.rel_lang.specs.Typed.{Signature, signature_of_method}
 use Rattle.rel_lang.specs.Lookup.{find_method, find_module}
 use Rattle.rel_flaws.specs.Code.{Code}
 use Rattle.rel_flaws.specs.Flaws.{Fault, first_of, first_in}
 use Rattle.rel_types.specs.Items.{globals_of_interface, signatures_of, setting_in_module, init_in_module, code_in_module, globals_of_side}
 use Rattle.rel_types.specs.Lookups.{without_owner, SameCode, SameLookups, SameSettings}
-use Rattle.rel_types.specs.OwnView.{decls_in, type_in}
-use Rattle.rel_types.specs.ModuleView.{HasOwn, or_nothing, IsNoInterface, IsGiven}
+use Rattle.rel_types.specs.OwnView.{decls_in, type_in, setting_of}
+use Rattle.rel_types.specs.ModuleView.{HasOwn, or_nothing, IsNoInterface, IsGiven, IsAroundModule}
+use Rattle.rel_types.specs.Called.{SameCallees}
 use Rattle.rel_types.specs.Known.{BothAre, IsKnown, IsInterfaceSeen, IsModuleSeen}
 use Rattle.rel_types.specs.declared.known.InterfaceSeen.{InterfaceSeen}
 use Rattle.rel_types.specs.declared.known.ModuleSeen.{ModuleSeen}
@@ -23,7 +25,10 @@ use Rattle.rel_flaws.specs.Entries.{find_entry}
 use denote.Ref.{Bor}
 use Rattle.rel_flaws.specs.View.{variables_seen}
 use Rattle.rel_flaws.specs.CodeView.{callees_seen}
+use Rattle.rel_types.specs.declared.around.Around.{Around}
 use Rattle.rel_types.specs.declared.own.Own.{Own}
+use Rattle.rel_flaws.specs.declared.scope.Seen.{Seen}
+use Rattle.rel_types.proofs.Declaring.{same_declared}
 use Rattle.rel_types.proofs.SameMembers.{same_globals}
 
 -- ---- methods
@@ -82,12 +87,38 @@ unwrapped i o none s e nothing seen = subst (λ t. IsGiven i t.now) (sym e) (wit
     within None seen = given_is i None none.now nothing seen
     within (Some s) seen = given_is i (Some s.now) none.now nothing seen
 
+-- with no globals behind them, and no procedures before the methods
+pub given_alone : (s none : InterfaceSeen) → IsNoInterface none → (sc : Scope) → SameLookups (variables_seen s.globals) sc
+    → SameLookups (variables_seen s.globals ++ variables_seen none.globals) sc
+given_alone s none nothing sc same x =
+    ap (λ l. option_map without_owner (find_variable x (variables_seen s.globals ++ variables_seen l))) nothing.globals
+    ∙ ap (λ l. option_map without_owner (find_variable x l)) (append-nil (variables_seen s.globals)) ∙ same x
+
+pub given_callees : (s none : InterfaceSeen) → IsNoInterface none → (i : Option Interface) → IsGiven i s
+    → SameCallees (callees_seen none.methods ++ callees_seen s.methods) (signatures_of i)
+given_callees s none nothing i given x =
+    ap (λ l. find_named (λ q. q.name) x (callees_seen l ++ callees_seen s.methods)) nothing.methods ∙ given.methods x
+
+-- what an item declares, alone in an index
+pub declared_alone : (o : Owner) (ds : List Decl) (es none : List (Word × Seen)) → none ≡ []
+    → SameLookups (variables_seen es) (variables_seen none ++ declared ByQuantifier true ds) → SameLookups (variables_seen es) (declared o true ds)
+declared_alone o ds es none nothing same x =
+    same x ∙ ap (λ l. option_map without_owner (find_variable x (variables_seen l ++ declared ByQuantifier true ds))) nothing ∙ same_declared ByQuantifier o true ds x
+
 -- ---- modules
 
 pub found_module : (b : Bundle) (k : Known) → IsKnown b k → (x y : Word) (o : Option (Bor ModuleSeen)) → y ≡ x → option_map (λ s. s.now) o ≡ find_entry y k.modules
     → BothAre IsModuleSeen (find_module b x) (option_map (λ s. s.now) o)
 found_module b k known x y o e f =
     subst (λ z. BothAre IsModuleSeen (find_module b z) (option_map (λ s. s.now) o)) e (subst (BothAre IsModuleSeen (find_module b y)) (sym f) (known.modules y))
+
+-- a body's setting, by what surrounds it and what it has of its own
+pub body_setting : (i : Option Interface) (m : Module) (ls : List Decl) (o : Option Sig) (a : Around) (w : Own) → IsAroundModule i m a → HasOwn (setting_in_module i m ls o) w
+    → SameSettings (setting_of a.globals w) (setting_in_module i m ls o)
+body_setting i m ls None a w around own =
+    record { interface = around.interface; own = around.own; parameters = own.parameters; locals = own.locals; result = own.result }
+body_setting i m ls (Some q) a w around own =
+    record { interface = around.interface; own = around.own; parameters = own.parameters; locals = own.locals; result = own.result }
 
 -- ---- code
 
@@ -107,6 +138,14 @@ side_globals i (Some m) g k = same_globals g (init_in_module i m) k
 -- how a method is aligned, as it is written
 abbrev pub seen_method : ℕ × Name × A.Align → ℕ × Word × Align
 seen_method a = (a.0, a.1, align_of a.2)
+
+-- the body of a method, as it is written
+abbrev pub seen_body : Name × B.Body → Word × Body
+seen_body b = (b.0, body_of b.1)
+
+pub bodies_kept : (ms : List (Name × B.Body)) → ◌≡◌ {A = List Word} (map (λ b. b.0) (map seen_body ms)) (map (λ b. b.0) ms)
+bodies_kept [] = refl
+bodies_kept (b ∷ rest) = ap (λ l. b.0 ∷ l) (bodies_kept rest)
 
 pub names_kept : (ms : List (ℕ × Name × A.Align)) → ◌≡◌ {A = List Word} (map (λ a. a.1) (map seen_method ms)) (map (λ a. a.1) ms)
 names_kept [] = refl

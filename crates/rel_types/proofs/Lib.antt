@@ -39,3 +39,4 @@ pub mod Named
 pub mod SubjectScopes
 pub mod InModules
 pub mod SameNames
+pub mod InClients

@@ -9,3 +9,4 @@ pub mod Told
 pub mod ByName
 pub mod SubjectView
 pub mod ModuleView
+pub mod ClientView

@@ -1,18 +1,19 @@
 -- What is known of an interface that may not be there, and of the modules of a pair and their bodies.
-use Rattle.std.specs.Prelude.{◌≡◌, ◌||◌, ℕ, false, is_none, List, [], Option, Some, None, option_map}
-use Rattle.rel_lang.specs.Syntax.{Word, Align, Interface, Module, ModulePair, Bundle}
-use Rattle.rel_lang.specs.State.{tables_of}
-use Rattle.rel_lang.specs.Scope.{Setting}
+use Rattle.std.specs.Prelude.{◌≡◌, ◌||◌, ℕ, false, map, is_none, List, [], Option, Some, None, option_map}
+use Rattle.rel_lang.specs.Syntax.{Word, Align, Body, Interface, Module, ModulePair, Bundle}
+use Rattle.rel_lang.specs.State.{Tables, tables_of}
+use Rattle.rel_lang.specs.Scope.{Setting, module_globals}
 use Rattle.rel_lang.specs.Typed.{Signature}
-use Rattle.rel_flaws.specs.Flaws.{Flaws, flawless, Pass, Fault, first_of, first_in}
+use Rattle.rel_flaws.specs.Flaws.{Flaws, flawless, either, Pass, Fault, first_of, first_in}
 use Rattle.rel_flaws.specs.Alignments.{align_fault}
 use Rattle.rel_flaws.specs.View.{variables_seen}
 use Rattle.rel_flaws.specs.CodeView.{callees_seen}
-use Rattle.rel_types.specs.Items.{globals_of_interface, signatures_of, misses_methods, differ_in_interface, rel_clause_fault, globals_of_side, module_sides, init_of_side, method_of_side}
+use Rattle.rel_types.specs.Items.{globals_of_interface, signatures_of, flaws_of_globals, module_body_fault, init_in_module, method_in_module, misses_methods, differ_in_interface, rel_clause_fault, globals_of_side, module_sides, init_of_side, method_of_side}
 use Rattle.rel_types.specs.Called.{SameCallees}
 use Rattle.rel_types.specs.Lookups.{SameLookups, SameSettings}
 use Rattle.rel_types.specs.Known.{BothAre, IsKnown, IsModuleSeen}
 use Rattle.rel_types.specs.OwnView.{decls_in, type_in, setting_of, callees_in}
+use Rattle.rel_types.specs.declared.around.Around as A
 use Rattle.rel_types.specs.declared.own.Own as O
 use Rattle.rel_types.specs.declared.known.Known as K
 use Rattle.rel_types.specs.declared.known.InterfaceSeen as I
@@ -69,3 +70,23 @@ flaws_of_modules i m n names = record flawless {
   unknown = is_none m || is_none n;
   missing = differ_in_interface m n || misses_methods i names;
 }
+
+-- what surrounds the bodies of the module
+pub record IsAroundModule (i : Option Interface) (m : Module) (a : A.Around) : Type 0 where
+  pub interface : SameLookups (variables_seen a.globals.interface.now) (globals_of_interface i)
+  pub own : SameLookups (variables_seen a.globals.own.now) (module_globals m)
+  pub callees : SameCallees (callees_in a) (signatures_of i)
+
+-- what a module has wrong at its place, and the first fault inside it
+abbrev pub flaws_of_module : Tables → Option Interface → Module → Flaws
+flaws_of_module tables i m =
+    either (flaws_of_globals tables (globals_of_interface i) m.globals)
+    (record flawless { unknown = is_none i; missing = misses_methods i (map (λ b. b.0) m.methods) })
+
+abbrev pub fault_of_body : Tables → Pass → Option Interface → Module → Word × Body → Option Fault
+fault_of_body tables pass i m b = module_body_fault tables pass (method_in_module i m b) (signatures_of i) b.1
+
+abbrev pub bodies_fault_of : Tables → Pass → Option Interface → Module → Option Fault
+bodies_fault_of tables pass i m =
+    first_of (module_body_fault tables pass (init_in_module i m) (signatures_of i) m.init)
+    (first_in (fault_of_body tables pass i m) m.methods)

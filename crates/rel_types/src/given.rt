@@ -1,21 +1,24 @@
 //! What an interface gives to modules and clients, where it is there.
 
-ghost use Rattle.std.specs.Prelude.{◌≡◌, [], Option, map};
-ghost use Rattle.rel_flaws.specs.View.{layers_seen};
+ghost use Rattle.std.specs.Prelude.{◌≡◌, [], Option, map, IfOk};
+ghost use Rattle.rel_flaws.specs.View.{layers_seen, tables_seen, flaws_of};
 ghost use Rattle.rel_lang.specs.Lookup.{find_method};
 ghost use Rattle.rel_lang.specs.Syntax as syntax;
 ghost use Rattle.rel_lang.specs.View.{decl_of};
+ghost use Rattle.rel_types.specs.Items as items;
 ghost use Rattle.rel_types.specs.Items.{setting_in_module, methods_of_interface};
 ghost use Rattle.rel_types.specs.ModuleView.{IsNoInterface, IsGiven, HasOwn};
 ghost use Rattle.rel_types.specs.OwnView.{globals_in};
 
 use crate::around::Globals;
+use crate::items::flaws_of_globals;
 use crate::known::InterfaceSeen;
 use crate::own::Own;
 use rel_flaws::index::Index;
-use rel_flaws::scope::{Layers, Seen};
+use rel_flaws::kind::Flaws;
+use rel_flaws::scope::{Layers, Seen, Tables};
 use rel_lang::bundle::Decl;
-use rel_list::List;
+use rel_list::{List, Memory};
 use std::alloc::Global;
 
 /// What no interface gives.
@@ -67,4 +70,24 @@ pub(crate) fn own_of_method<'a>(
             result: None,
         },
     }
+}
+
+/// What the variables that an item declares have wrong, behind those of the interface.
+pub(crate) fn flaws_of_declared<'a, 's>(
+    alloc: Global,
+    tables: &Tables<'a>,
+    none: &'s InterfaceSeen<'a>,
+    given: &'s InterfaceSeen<'a>,
+    decls: &'a List<Decl>,
+) -> Result<Flaws, Memory>
+    requires { IsNoInterface none.now }
+    ensures { IfOk result (λ f. (i : Option syntax.Interface) → IsGiven i given.now
+        → flaws_of f ≡ items.flaws_of_globals (tables_seen tables.now) (items.globals_of_interface i) (map decl_of decls.now)) }
+{
+    let before = Globals {
+        interface: &given.globals,
+        own: &none.globals,
+    };
+    let flaws = flaws_of_globals(alloc, tables, before, decls)?;
+    Ok(flaws)
 }
