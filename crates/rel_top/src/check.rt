@@ -5,6 +5,7 @@ ghost use Rattle.rel_io.specs.Told.{IsToldAs, IsLonger};
 ghost use Rattle.rel_io.specs.Answers.{IfFailed, UnlessFailed, IfTooLong};
 ghost use Rattle.rel_decls.specs.declared.fault.TextFault.TheVariants as texts;
 ghost use Rattle.rel_lang.specs.Refusal.{Fits};
+ghost use Rattle.rel_lang.specs.Typed.{IsTyped};
 ghost use Rattle.rel_flaws.specs.Flaws as flaws;
 ghost use Rattle.rel_lang.specs.Syntax as syntax;
 ghost use Rattle.rel_lang.specs.View.{item_of, bundle_of};
@@ -168,7 +169,8 @@ fn check_text<F: Files>(
 
 /// Boxed, since a function that drops a sequent of its own is too large for the check.
 fn boxed_obligation(alloc: Global, bundle: &Bundle) -> Result<Option<Boxed<Sequent>>, Memory>
-    requires { Fits (bundle_of bundle.now) }
+    requires fits { Fits (bundle_of bundle.now) }
+    requires typed { IsTyped (bundle_of bundle.now) }
     ensures { IfOk result (λ o. IsFound (bundle_of bundle.now) o) }
 {
     match obligation(alloc, bundle)? {
@@ -203,7 +205,8 @@ fn check_typed<F: Files>(
     proof: &str,
     files: &mut F,
 ) -> Result<Answer, Memory>
-    requires { Fits (bundle_of bundle.now) }
+    requires fits { Fits (bundle_of bundle.now) }
+    requires typed { IsTyped (bundle_of bundle.now) }
     ensures answer { IfOk result (IsTypedAnswer (bundle_of bundle.now) (F.told files.old)
         (ReadFailed (F.faults files.old) (F.faults files.new)
         (F.read_faults files.old) (F.read_faults files.new))
