@@ -7,7 +7,6 @@ use Rattle.rel_lang.specs.View.{unit_of, proc_of, judgement_of}
 use Rattle.rel_lang.specs.declared.bundle.UnitItem.{UnitItem}
 use Rattle.rel_lang.specs.declared.bundle.Proc.{Proc}
 use Rattle.rel_lang.specs.declared.bundle.Judgement.{Judgement}
-use Rattle.rel_logic.specs.Syntax.{Trm}
 use Rattle.rel_logic.specs.View.{trm_of, sequent_of}
 use Rattle.rel_logic.specs.declared.sequent.Sequent.{Sequent}
 use Rattle.rel_logic.specs.declared.term.Term.{Term}

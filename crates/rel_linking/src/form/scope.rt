@@ -1,112 +1,76 @@
-//! Which names are in scope.
+//! Which names are listed, and which expressions are arithmetic.
 
-ghost use Rattle.std.specs.Prelude.{◌≡◌, ◌↔◌, ◌≤◌, IsTrue, drop, length, ◌∷◌, map};
+ghost use Rattle.std.specs.Prelude.{◌≡◌, ◌↔◌, [], IsTrue, OnOk, IfOk, map};
 ghost use Rattle.std.specs.List.{AllByRecursion};
-ghost use Rattle.rel_lang.specs.Syntax.{Global};
-ghost use Rattle.rel_lang.specs.Scope.{result_name};
-ghost use Rattle.rel_lang.specs.Typed.{IsAmong, AreDistinct};
 ghost use Rattle.rel_lang.specs.View.{expression_of, effect_of};
-ghost use Rattle.rel_linking.specs.Form.{IsListed};
-ghost use Rattle.rel_linking.specs.Parts.{names_of, visible, Reads, Names, IsNamedIn};
+ghost use Rattle.rel_linking.specs.Form.{IsArithmetic};
+ghost use Rattle.rel_linking.specs.Parts.{IsOfGlobal, IsIndexed, Lists, with_listed};
 
-use rel_lang::bundle::{Decl, Effect};
+use rel_flaws::index::Index;
+use rel_lang::bundle::Effect;
 use rel_lang::expr::Expr;
-use rel_list::{List, Name};
+use rel_list::{List, Memory, Name};
+use std::alloc::Global;
 
-/// Whether the name is declared, from the declaration with this index on.
-#[tactic(auto, using(crate::proofs::FormsLists::searching))]
-pub fn is_declared(x: &str, declared: &List<Decl>, start: usize) -> bool
-    requires { start ≤ length declared.now }
-    ensures { IsTrue result ↔ IsAmong x.now (names_of (drop start declared.now)) }
+/// The names of the listed globals.
+#[tactic(auto, using(crate::proofs::FormsLists::indexing))]
+pub fn listed<'a>(alloc: Global, writes: &'a List<Effect>) -> Result<Index<'a, ()>, Memory>
+    ensures { IfOk result (λ names. Lists names (map effect_of writes.now)) }
 {
-    for i in start..declared.len() {
-        if declared.at(i).name.is_text(x) {
-            return true;
-        }
-    }
-    false
-}
-
-/// Whether the global is listed.
-#[tactic(auto, using(crate::proofs::FormsLists::searching))]
-pub fn is_listed(x: &Name, writes: &List<Effect>) -> bool
-    ensures { IsTrue result ↔ IsListed (map effect_of writes.now) x.now }
-{
+    let mut names = Index::new(alloc);
     for i in 0..writes.len() {
-        if is_effect(writes.at(i), x) {
-            return true;
-        }
+        add_listed(&mut names, writes.at(i))?;
     }
-    false
+    Ok(names)
 }
 
-fn is_effect(effect: &Effect, x: &Name) -> bool
-    ensures { IsTrue result ↔ (effect_of effect.now ≡ Global x.now) }
+fn add_listed<'a>(names: &mut Index<'a, ()>, effect: &'a Effect) -> Result<(), Memory>
+    ensures { OnOk result (names.new ≡ with_listed names.old (effect_of effect.now)) }
 {
     match effect {
-        Effect::Var(y) => y.is(x),
-        Effect::At(_) => false,
-    }
-}
-
-/// Whether no name is declared twice, and none is `result`.
-#[tactic(auto, using(crate::proofs::FormsLists::distinct))]
-pub fn are_distinct(declared: &List<Decl>) -> bool
-    ensures { IsTrue result ↔ AreDistinct (result_name ∷ names_of declared.now) }
-{
-    if is_declared("result", declared, 0) {
-        return false;
-    }
-    for i in 0..declared.len() {
-        if is_declared(declared.at(i).name.as_str(), declared, i + 1) {
-            return false;
+        Effect::Var(x) => {
+            names.insert(x.as_str(), ())?;
+            Ok(())
         }
+        Effect::At(_) => Ok(()),
     }
-    true
 }
 
-/// Whether each effect is a declared global.
+/// Whether the name is one of these.
+pub fn is_listed(x: &Name, names: &Index<'_, ()>) -> bool
+    ensures { IsTrue result ↔ IsIndexed x.now names.now }
+{
+    names.has(x.as_str())
+}
+
+/// Whether each effect is a global.
 #[tactic(auto, using(crate::proofs::FormsLists::each))]
-pub fn are_declared(writes: &List<Effect>, declared: &List<Decl>) -> bool
-    ensures { IsTrue result ↔ AllByRecursion (IsNamedIn declared.now) writes.now }
+pub fn are_globals(writes: &List<Effect>) -> bool
+    ensures { IsTrue result ↔ AllByRecursion IsOfGlobal writes.now }
 {
     for i in 0..writes.len() {
-        if !is_global_of(writes.at(i), declared) {
+        if !is_global(writes.at(i)) {
             return false;
         }
     }
     true
 }
 
-fn is_global_of(effect: &Effect, declared: &List<Decl>) -> bool
-    ensures { IsTrue result ↔ Names (names_of declared.now) (effect_of effect.now) }
+fn is_global(effect: &Effect) -> bool
+    ensures { IsTrue result ↔ IsOfGlobal effect.now }
 {
-    match effect {
-        Effect::Var(x) => is_declared(x.as_str(), declared, 0),
-        Effect::At(_) => false,
-    }
+    matches!(effect, Effect::Var(_))
 }
 
-/// Whether the expression is arithmetic, and each name in it is declared or is `result` where that is in scope.
-pub fn reads_only(e: &Expr, declared: &List<Decl>, with_result: bool) -> bool
-    ensures { IsTrue result ↔ Reads (visible with_result declared.now) (expression_of e.now) }
+/// Whether the expression has names, numbers, sums and differences alone.
+pub fn is_arithmetic(e: &Expr) -> bool
+    ensures { IsTrue result ↔ IsArithmetic (expression_of e.now) }
 {
     match e {
-        Expr::Var(x) => is_visible(x, declared, with_result),
+        Expr::Var(_) => true,
         Expr::Num(_) => true,
-        Expr::Add(a, b) => reads_only(a.get(), declared, with_result)
-            && reads_only(b.get(), declared, with_result),
-        Expr::Sub(a, b) => reads_only(a.get(), declared, with_result)
-            && reads_only(b.get(), declared, with_result),
+        Expr::Add(a, b) => is_arithmetic(a.get()) && is_arithmetic(b.get()),
+        Expr::Sub(a, b) => is_arithmetic(a.get()) && is_arithmetic(b.get()),
         _ => false,
     }
-}
-
-fn is_visible(x: &Name, declared: &List<Decl>, with_result: bool) -> bool
-    ensures { IsTrue result ↔ IsAmong x.now (visible with_result declared.now) }
-{
-    if with_result && x.is_text("result") {
-        return true;
-    }
-    is_declared(x.as_str(), declared, 0)
 }
