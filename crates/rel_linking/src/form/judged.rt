@@ -6,8 +6,7 @@ ghost use Rattle.rel_lang.specs.View.{rel_of, align_of, biform_of, biblock_of, b
 ghost use Rattle.rel_linking.specs.Form.{IsAgreement, IsSplitOf};
 ghost use Rattle.rel_linking.specs.Parts.{held, IsAbout, IsSplitForm, IsJudged, AreJudged};
 
-use crate::form::plain::is_plain;
-use crate::form::scope::is_arithmetic;
+use crate::form::plain::{is_arithmetic, is_plain};
 use rel_lang::biprogram::{Align, BiCommand, BiForm};
 use rel_lang::bundle::{Judgement, Proc, UnitItem};
 use rel_lang::command::{Command, same_commands};

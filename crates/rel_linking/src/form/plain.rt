@@ -3,15 +3,15 @@
 ghost use Rattle.std.specs.Prelude.{◌≡◌, ◌↔◌, IsTrue, IfOk, map};
 ghost use Rattle.std.specs.List.{AllByRecursion};
 ghost use Rattle.rel_lang.specs.Syntax.{Int, True};
-ghost use Rattle.rel_lang.specs.View.{type_of, formula_of, effect_of, block_of};
-ghost use Rattle.rel_linking.specs.Form.{AssignsListed};
+ghost use Rattle.rel_lang.specs.View.{type_of, expression_of, formula_of, effect_of, block_of};
+ghost use Rattle.rel_linking.specs.Form.{IsArithmetic, AssignsListed};
 ghost use Rattle.rel_linking.specs.Parts.{IsInt, IsPlainIn, IsPlain};
 
-use crate::form::scope::{are_globals, is_arithmetic, is_listed, listed};
+use crate::form::writes::{are_globals, is_listed, listed};
 use rel_flaws::index::Index;
 use rel_lang::bundle::{Decl, Effect, Proc, UnitItem};
 use rel_lang::command::{Command, Form};
-use rel_lang::expr::Ty;
+use rel_lang::expr::{Expr, Ty};
 use rel_lang::formula::Formula;
 use rel_list::{List, Memory};
 use std::alloc::Global;
@@ -95,6 +95,19 @@ fn is_plain_command(c: &Command, names: &Index<'_, ()>) -> bool
 {
     match &c.form {
         Form::Assign(x, e) => (x.is_text("result") || is_listed(x, names)) && is_arithmetic(e),
+        _ => false,
+    }
+}
+
+/// Whether the expression has names, numbers, sums and differences alone.
+pub fn is_arithmetic(e: &Expr) -> bool
+    ensures { IsTrue result ↔ IsArithmetic (expression_of e.now) }
+{
+    match e {
+        Expr::Var(_) => true,
+        Expr::Num(_) => true,
+        Expr::Add(a, b) => is_arithmetic(a.get()) && is_arithmetic(b.get()),
+        Expr::Sub(a, b) => is_arithmetic(a.get()) && is_arithmetic(b.get()),
         _ => false,
     }
 }

@@ -1,14 +1,12 @@
-//! Which names are listed, and which expressions are arithmetic.
+//! What a procedure lists in `writes`.
 
 ghost use Rattle.std.specs.Prelude.{◌≡◌, ◌↔◌, [], IsTrue, OnOk, IfOk, map};
 ghost use Rattle.std.specs.List.{AllByRecursion};
-ghost use Rattle.rel_lang.specs.View.{expression_of, effect_of};
-ghost use Rattle.rel_linking.specs.Form.{IsArithmetic};
+ghost use Rattle.rel_lang.specs.View.{effect_of};
 ghost use Rattle.rel_linking.specs.Parts.{IsOfGlobal, IsIndexed, Lists, with_listed};
 
 use rel_flaws::index::Index;
 use rel_lang::bundle::Effect;
-use rel_lang::expr::Expr;
 use rel_list::{List, Memory, Name};
 use std::alloc::Global;
 
@@ -60,17 +58,4 @@ fn is_global(effect: &Effect) -> bool
     ensures { IsTrue result ↔ IsOfGlobal effect.now }
 {
     matches!(effect, Effect::Var(_))
-}
-
-/// Whether the expression has names, numbers, sums and differences alone.
-pub fn is_arithmetic(e: &Expr) -> bool
-    ensures { IsTrue result ↔ IsArithmetic (expression_of e.now) }
-{
-    match e {
-        Expr::Var(_) => true,
-        Expr::Num(_) => true,
-        Expr::Add(a, b) => is_arithmetic(a.get()) && is_arithmetic(b.get()),
-        Expr::Sub(a, b) => is_arithmetic(a.get()) && is_arithmetic(b.get()),
-        _ => false,
-    }
 }

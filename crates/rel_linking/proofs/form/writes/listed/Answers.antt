@@ -2,7 +2,7 @@ use Rattle.std.proofs.Common.{◌+◌, sym, ap, subst, ◌∙◌, arith}
 use Rattle.rel_lang.specs.View.{effect_of}
 use Rattle.rel_linking.specs.Parts.{with_listed}
 use Rattle.rel_linking.proofs.FormsLists.{AreIndexed, indexed_more}
-use Rattle.rel_linking.proofs.form.scope.listed.Goals as goal
+use Rattle.rel_linking.proofs.form.writes.listed.Goals as goal
 
 pub loop-i-preserved : goal.loop-i-preserved
 loop-i-preserved c =
