@@ -2,7 +2,7 @@
 use Rattle.std.proofs.Common.{◌≡◌, ℕ, true, false, List, [], ◌∷◌, ◌++◌, map, fold, Option, Some, None, option_map, ◌+◌, ◌<◌, length, get_or, take, sym, ap, refl, ◌∙◌}
 use Rattle.std.specs.Prelude.{bytes_eq, is_some, if◌then◌else◌, ◌||◌}
 use Rattle.std.specs.List.{list_any}
-use Rattle.std.specs.Map.{lookup}
+use Rattle.std.specs.Map.{lookup, set_value}
 use Rattle.indexmap.specs.IndexMap.{insert_entry}
 use Rattle.std.proofs.lemmas.List.{take_more}
 use Rattle.std.proofs.lemmas.Slice.Eq.{bytes_eq-Decides}
@@ -10,7 +10,7 @@ use denote.Ref.{Bor}
 use Rattle.rel_lang.specs.Syntax.{Word}
 use Rattle.rel_lang.specs.State.{find_named, find_variable, Scope, Variable}
 use Rattle.rel_lang.specs.Truth.{quantified}
-use Rattle.rel_flaws.specs.Entries.{find_entry, with_entry, last_first}
+use Rattle.rel_flaws.specs.Entries.{find_entry, with_entry, with_value, last_first}
 use Rattle.rel_flaws.specs.View.{field_of, variable_of, variables_seen, layers_seen, scope_of}
 use Rattle.rel_flaws.specs.declared.scope.SeenField.{SeenField}
 use Rattle.rel_flaws.specs.declared.scope.Seen.{Seen}
@@ -38,6 +38,22 @@ added k v (e ∷ es) h =
     → entries (if b then (e.0, v) ∷ es else e ∷ insert_entry (λ x y. bytes_eq x.now y.now) es k v) ≡ (if b then (e.0.now, e.1) ∷ entries es else (e.0.now, e.1) ∷ with_entry (entries es) k.now v)) [
       | true ↦ λ f. (cc)
       | false ↦ λ f. ap (λ r. (e.0.now, e.1) ∷ r) (added k v es f)
+    ]) h
+
+pub replaced : {V : Type 0} (x : Word) (v : V) (es : List (Bor (List ℕ) × V)) → entries (set_value (λ k. bytes_eq x k.now) es v) ≡ with_value (entries es) x v
+replaced x v [] = refl
+replaced x v (e ∷ es) =
+    elim (bytes_eq x e.0.now) as (λ b. entries (if b then (e.0, v) ∷ es else e ∷ set_value (λ k. bytes_eq x k.now) es v) ≡ (if b then (e.0.now, v) ∷ entries es else (e.0.now, e.1) ∷ with_value (entries es) x v)) [
+      | true ↦ refl
+      | false ↦ ap (λ r. (e.0.now, e.1) ∷ r) (replaced x v es)
+    ]
+
+pub absent : {V : Type 0} (x : Word) (v : V) (es : List (Word × V)) → None ≡ find_entry x es → with_value es x v ≡ es
+absent x v [] h = refl
+absent x v (e ∷ es) h =
+    (elim (bytes_eq x e.0) as (λ b. None ≡ (if b then Some e.1 else find_entry x es) → (if b then (e.0, v) ∷ es else e ∷ with_value es x v) ≡ e ∷ es) [
+      | true ↦ λ f. cc
+      | false ↦ λ f. ap (λ r. e ∷ r) (absent x v es f)
     ]) h
 
 pub kept : {V : Type 0} (x : Word) (v : V) (es : List (Word × V)) → is_some (find_entry x es) ≡ true → with_entry es x v ≡ es

@@ -12,6 +12,11 @@ abbrev pub with_entry : {V : Type 0} → List (Word × V) → Word → V → Lis
 with_entry [] x v = (x, v) ∷ []
 with_entry (e ∷ es) x v = if bytes_eq x e.0 then e ∷ es else e ∷ with_entry es x v
 
+-- with another value for a name that is there
+abbrev pub with_value : {V : Type 0} → List (Word × V) → Word → V → List (Word × V)
+with_value [] x v = []
+with_value (e ∷ es) x v = if bytes_eq x e.0 then (e.0, v) ∷ es else e ∷ with_value es x v
+
 -- the last of these in front
 abbrev pub last_first : List (Bor Word × Bor Word) → List (Word × Word)
 last_first qs = fold (λ done q. (q.0.now, q.1.now) ∷ done) [] qs

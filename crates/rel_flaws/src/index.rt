@@ -1,7 +1,7 @@
 //! Names in order of declaration, each with what is known of it.
 
 ghost use Rattle.std.specs.Prelude.{◌≡◌, [], OnOk, option_map, is_some};
-ghost use Rattle.rel_flaws.specs.Entries.{find_entry, with_entry};
+ghost use Rattle.rel_flaws.specs.Entries.{find_entry, with_entry, with_value};
 
 use indexmap::IndexMap;
 use rel_list::Memory;
@@ -53,6 +53,15 @@ impl<'a, V: Drop> Index<'a, V> {
         }
         self.entries.insert(name, value)?;
         Ok(())
+    }
+
+    /// Replaces what is known of a name that is there.
+    pub fn put(&mut self, name: &str, value: V)
+        ensures { self.new ≡ with_value self.old name.now value }
+    {
+        if let Some(known) = self.entries.get_mut(name) {
+            *known = value;
+        }
     }
 }
 

@@ -1,77 +1,83 @@
--- Walks along declarations and lists of effects.
-use Rattle.std.proofs.Common.{◌≡◌, ◌⊎◌, inl, inr, ⊎_elim, ℕ, ◌+◌, ◌<◌, ◌≤◌, List, ◌∷◌, length, get_or, drop, map, refl, sym, ap, subst}
+-- Walks along lists: what is listed, and all elements.
+use Rattle.std.proofs.Common.{◌≡◌, ◌⊎◌, ◌↔◌, inl, inr, ⊎_elim, ℕ, ◌+◌, ◌<◌, ◌≤◌, Bool, true, false, IsTrue, is_some, if◌then◌else◌, Option, Some, None, List, [], ◌∷◌, length, get_or, drop, map, refl, sym, ap, subst}
 use Rattle.std.specs.List.{AllByRecursion}
+use Rattle.std.specs.Str.{bytes_eq}
 use Rattle.std.proofs.lemmas.List.{drop_more, drop_all}
+use Rattle.std.proofs.lemmas.Slice.Eq.{bytes_eq-Decides}
 use Rattle.rel_lang.specs.Syntax.{Word, Effect, Global, Locations}
-use Rattle.rel_linking.specs.Form.{IsListed}
-use Rattle.rel_lang.specs.Typed.{IsAmong, AreDistinct}
-use Rattle.rel_lang.specs.declared.bundle.Decl.{Decl}
 use Rattle.rel_lang.specs.declared.bundle.Effect as E
 use Rattle.rel_lang.specs.View.{effect_of}
-use Rattle.rel_linking.specs.Parts.{names_of}
+use Rattle.rel_flaws.specs.Entries.{find_entry, with_entry}
+use Rattle.rel_linking.specs.Form.{IsListed}
+use Rattle.rel_linking.specs.Parts.{Names, IsIndexed, Lists, with_listed}
 
--- ---- is_declared
+-- ---- the index of what is listed
 
-pub among_here : (x : Word) (ds : List Decl) (i : ℕ) (d : Decl) → i < length ds → (get_or ds i d).name ≡ x → IsAmong x (names_of (drop i ds))
-among_here x ds i d h e = subst (λ l. IsAmong x (names_of l)) (sym (drop_more ds i d h)) (inl (sym e))
+abbrev one_if : Bool → Option (Unit {0})
+one_if b = if b then Some tt else None
 
-pub among_before : (x : Word) (ds : List Decl) (i : ℕ) (d : Decl) → i < length ds → IsAmong x (names_of (drop (i + 1) ds)) → IsAmong x (names_of (drop i ds))
-among_before x ds i d h a = subst (λ l. IsAmong x (names_of l)) (sym (drop_more ds i d h)) (inr a)
+in_added : (x y : Word) (ns : Names) → IsIndexed x (with_entry ns y tt) → (x ≡ y) ⊎ IsIndexed x ns
+in_added x y [] h =
+    (elim (bytes_eq x y) as (λ b. bytes_eq x y ≡ b → IsTrue (is_some (one_if b)) → (x ≡ y) ⊎ IsIndexed x []) [
+      | true ↦ λ e i. inl ((bytes_eq-Decides x y).0 e)
+      | false ↦ λ e i. cc
+    ]) refl h
+in_added x y (n ∷ ns) h =
+    (elim (bytes_eq y n.0) as (λ b. IsIndexed x (if b then n ∷ ns else n ∷ with_entry ns y tt) → (x ≡ y) ⊎ IsIndexed x (n ∷ ns)) [
+      | true ↦ λ i. inr i
+      | false ↦ elim (bytes_eq x n.0) as (λ b. IsTrue (is_some (if b then Some n.1 else find_entry x (with_entry ns y tt))) → (x ≡ y) ⊎ IsTrue (is_some (if b then Some n.1 else find_entry x ns))) [
+        | true ↦ λ i. inr refl
+        | false ↦ λ i. in_added x y ns i
+      ]
+    ]) h
 
-pub among_later : (x : Word) (ds : List Decl) (i : ℕ) (d : Decl) → i < length ds → ((get_or ds i d).name ≡ x → ⊥) → IsAmong x (names_of (drop i ds)) → IsAmong x (names_of (drop (i + 1) ds))
-among_later x ds i d h differ a =
-    let a' : (x ≡ (get_or ds i d).name) ⊎ IsAmong x (names_of (drop (i + 1) ds)) = subst (λ l. IsAmong x (names_of l)) (drop_more ds i d h) a in
-    ⊎_elim (λ e. absurd (differ (sym e))) (λ m. m) a'
+added_in : (x y : Word) (ns : Names) → IsIndexed x ns → IsIndexed x (with_entry ns y tt)
+added_in x y [] h = cc
+added_in x y (n ∷ ns) h =
+    (elim (bytes_eq y n.0) as (λ b. IsIndexed x (n ∷ ns) → IsIndexed x (if b then n ∷ ns else n ∷ with_entry ns y tt)) [
+      | true ↦ λ i. i
+      | false ↦ elim (bytes_eq x n.0) as (λ b. IsTrue (is_some (if b then Some n.1 else find_entry x ns)) → IsTrue (is_some (if b then Some n.1 else find_entry x (with_entry ns y tt)))) [
+        | true ↦ λ i. refl
+        | false ↦ λ i. added_in x y ns i
+      ]
+    ]) h
 
-pub among_end : (x : Word) (ds : List Decl) (i : ℕ) → length ds ≤ i → IsAmong x (names_of (drop i ds)) → ⊥
-among_end x ds i h a = subst (λ l. IsAmong x (names_of l)) (drop_all i ds h) a
+added_itself : (y : Word) (ns : Names) → IsIndexed y (with_entry ns y tt)
+added_itself y [] = ap (λ b. is_some (one_if b)) ((bytes_eq-Decides y y).1 refl)
+added_itself y (n ∷ ns) =
+    (elim (bytes_eq y n.0) as (λ b. bytes_eq y n.0 ≡ b → IsIndexed y (if b then n ∷ ns else n ∷ with_entry ns y tt)) [
+      | true ↦ λ e. ap (λ b. is_some (if b then Some n.1 else find_entry y ns)) e
+      | false ↦ λ e. subst (λ b. IsTrue (is_some (if b then Some n.1 else find_entry y (with_entry ns y tt)))) (sym e) (added_itself y ns)
+    ]) refl
 
--- ---- is_listed
+-- what is in the index or listed from i on is what is listed
+abbrev pub AreIndexed : Names → List E.Effect → ℕ → Type 0
+AreIndexed ns ws i = (x : Word) → ((IsIndexed x ns ⊎ IsListed (map effect_of (drop i ws)) x) ↔ IsListed (map effect_of ws) x)
 
-pub listed_here : (x : Word) (es : List E.Effect) (i : ℕ) (d : E.Effect) → i < length es → effect_of (get_or es i d) ≡ Global x → IsListed (map effect_of (drop i es)) x
-listed_here x es i d h e =
-    subst (λ l. IsListed (map effect_of l) x) (sym (drop_more es i d h)) (subst (λ f. IsListed (f ∷ map effect_of (drop (i + 1) es)) x) (sym e) (inl refl))
+one_more : (ns : Names) (f : Effect) (rest : List Effect) (x : Word) → ((IsIndexed x (with_listed ns f) ⊎ IsListed rest x) ↔ (IsIndexed x ns ⊎ IsListed (f ∷ rest) x))
+one_more ns (Global y) rest x = (
+  λ h. ⊎_elim (λ i. ⊎_elim (λ e. inr (inl e)) (λ k. inl k) (in_added x y ns i)) (λ l. inr (inr l)) h,
+  λ h. ⊎_elim (λ i. inl (added_in x y ns i)) (λ l. ⊎_elim (λ e. inl (subst (λ z. IsIndexed z (with_entry ns y tt)) (sym e) (added_itself y ns))) (λ k. inr k) l) h,
+)
+one_more ns (Locations p) rest x = (λ h. h, λ h. h)
 
-pub listed_before : (x : Word) (es : List E.Effect) (i : ℕ) (d : E.Effect) → i < length es → IsListed (map effect_of (drop (i + 1) es)) x → IsListed (map effect_of (drop i es)) x
-listed_before x es i d h a =
-    subst (λ l. IsListed (map effect_of l) x) (sym (drop_more es i d h)) (later (effect_of (get_or es i d)) a)
-  where
-    later : (f : Effect) → IsListed (map effect_of (drop (i + 1) es)) x → IsListed (f ∷ map effect_of (drop (i + 1) es)) x
-    later (Global y) b = inr b
-    later (Locations p) b = b
+pub none_indexed : (ws : List E.Effect) → AreIndexed [] ws 0
+none_indexed ws x = (λ h. ⊎_elim (λ i. cc) (λ l. l) h, λ l. inr l)
 
-pub listed_later : (x : Word) (es : List E.Effect) (i : ℕ) (d : E.Effect) → i < length es → (effect_of (get_or es i d) ≡ Global x → ⊥) → IsListed (map effect_of (drop i es)) x → IsListed (map effect_of (drop (i + 1) es)) x
-listed_later x es i d h differ a =
-    one (effect_of (get_or es i d)) differ (subst (λ l. IsListed (map effect_of l) x) (drop_more es i d h) a)
-  where
-    one : (f : Effect) → (f ≡ Global x → ⊥) → IsListed (f ∷ map effect_of (drop (i + 1) es)) x → IsListed (map effect_of (drop (i + 1) es)) x
-    one (Global y) other b = ⊎_elim (λ e. absurd (other (ap Global (sym e)))) (λ m. m) b
-    one (Locations p) other b = b
+pub indexed_more : (ns : Names) (ws : List E.Effect) (i : ℕ) (d : E.Effect) → i < length ws → AreIndexed ns ws i → AreIndexed (with_listed ns (effect_of (get_or ws i d))) ws (i + 1)
+indexed_more ns ws i d h all x =
+    let step = one_more ns (effect_of (get_or ws i d)) (map effect_of (drop (i + 1) ws)) x in
+    let before : (IsIndexed x ns ⊎ IsListed (map effect_of (get_or ws i d ∷ drop (i + 1) ws)) x) ↔ IsListed (map effect_of ws) x =
+    subst (λ es. (IsIndexed x ns ⊎ IsListed (map effect_of es) x) ↔ IsListed (map effect_of ws) x) (drop_more ws i d h) (all x) in
+    (λ k. before.0 (step.0 k), λ l. step.1 (before.1 l))
 
-pub listed_end : (x : Word) (es : List E.Effect) (i : ℕ) → length es ≤ i → IsListed (map effect_of (drop i es)) x → ⊥
-listed_end x es i h a = subst (λ l. IsListed (map effect_of l) x) (drop_all i es h) a
+pub all_indexed : (ns : Names) (ws : List E.Effect) (i : ℕ) → length ws ≤ i → AreIndexed ns ws i → Lists ns (map effect_of ws)
+all_indexed ns ws i h all x =
+    let whole : (IsIndexed x ns ⊎ IsListed (map effect_of []) x) ↔ IsListed (map effect_of ws) x =
+    subst (λ es. (IsIndexed x ns ⊎ IsListed (map effect_of es) x) ↔ IsListed (map effect_of ws) x) (drop_all i ws h) (all x) in
+    (λ k. whole.0 (inl k), λ l. ⊎_elim (λ k. k) (λ n. absurd n) (whole.1 l))
 
-pub ruleset searching = (among_here, among_before, among_later, among_end, listed_here, listed_before, listed_later, listed_end)
-
--- ---- are_distinct
-
-pub distinct_more : (ds : List Decl) (i : ℕ) (d : Decl) → i < length ds → (IsAmong (get_or ds i d).name (names_of (drop (i + 1) ds)) → ⊥) → AreDistinct (names_of (drop (i + 1) ds)) → AreDistinct (names_of (drop i ds))
-distinct_more ds i d h apart rest = subst (λ l. AreDistinct (names_of l)) (sym (drop_more ds i d h)) (apart, rest)
-
-pub distinct_rest : (ds : List Decl) (i : ℕ) (d : Decl) → i < length ds → AreDistinct (names_of (drop i ds)) → AreDistinct (names_of (drop (i + 1) ds))
-distinct_rest ds i d h all =
-    let both : (IsAmong (get_or ds i d).name (names_of (drop (i + 1) ds)) → ⊥) × AreDistinct (names_of (drop (i + 1) ds)) = subst (λ l. AreDistinct (names_of l)) (drop_more ds i d h) all in
-    both.1
-
-pub distinct_here : (ds : List Decl) (i : ℕ) (d : Decl) → i < length ds → AreDistinct (names_of (drop i ds)) → IsAmong (get_or ds i d).name (names_of (drop (i + 1) ds)) → ⊥
-distinct_here ds i d h all =
-    let both : (IsAmong (get_or ds i d).name (names_of (drop (i + 1) ds)) → ⊥) × AreDistinct (names_of (drop (i + 1) ds)) = subst (λ l. AreDistinct (names_of l)) (drop_more ds i d h) all in
-    both.0
-
-pub distinct_end : (ds : List Decl) (i : ℕ) → length ds ≤ i → AreDistinct (names_of (drop i ds))
-distinct_end ds i h = subst (λ l. AreDistinct (names_of l)) (sym (drop_all i ds h)) tt
-
-pub ruleset distinct = (distinct_more, distinct_rest, distinct_here, distinct_end)
+pub ruleset indexing = (none_indexed, indexed_more, all_indexed)
 
 -- ---- all elements
 

@@ -1,65 +1,112 @@
 -- Look-ups and changes in a scope, and walks along a block.
-use Rattle.std.proofs.Common.{◌≡◌, ◌≢◌, ℕ, zero, suc, pos, ◌+◌, ◌<◌, ◌≤◌, Bool, true, false, if◌then◌else◌, List, [], ◌∷◌, ◌++◌, length, get_or, take, drop, set, map, replicate, All, refl, sym, ap, ◌∙◌, arith, rules}
+use Rattle.std.proofs.Common.{◌≡◌, ℕ, suc, pos, ◌+◌, ◌<◌, ◌≤◌, true, false, if◌then◌else◌, inl, inr, List, [], ◌∷◌, ◌++◌, length, get_or, drop, map, replicate, Some, None, refl, sym, ap, subst, ◌∙◌, append_assoc, arith, rules}
 use Rattle.std.specs.Str.{bytes_eq}
+use Rattle.std.proofs.lemmas.List.{drop_more, drop_all}
 use Rattle.std.proofs.lemmas.Slice.Eq.{bytes_eq-Decides}
 use Rattle.rel_lang.specs.Syntax.{Word, At, Form, Skip, Assign, Load, Store, New, Call, If, While, Block, Then}
-use Rattle.rel_lang.specs.View.{block_of}
+use Rattle.rel_lang.specs.Scope.{result_name}
+use Rattle.rel_lang.specs.Typed.{IsAmong, AreDistinct}
+use Rattle.rel_lang.specs.View.{decl_of, block_of}
+use Rattle.rel_lang.specs.declared.bundle.Decl as D
 use Rattle.rel_lang.specs.declared.command.Command.{Command}
-use Rattle.rel_logic.specs.Syntax.{Trm, int, Fml, Srt, int_sort, rgn_sort, bij_sort}
+use Rattle.rel_logic.specs.Syntax.{Trm, int, var, Fml, Srt, int_sort, rgn_sort, bij_sort}
 use Rattle.rel_logic.specs.View.{trm_of}
-use Rattle.rel_logic.specs.declared.term.Term.{Term, Int, the_lemmas}
+use Rattle.rel_logic.specs.declared.term.Term.{Term, Int, Var, the_lemmas}
+use Rattle.rel_flaws.specs.Entries.{find_entry, with_entry, with_value}
 use Rattle.rel_linking.specs.Obligation.{Store as Terms, look_up, with_term, numbered, Walked, walk, block_len, inside, relation_of, left_alloc, first_right, right_alloc, bijection, first_fresh, left_block, right_block, left_start, right_start, left_walk, right_walk, obligation_of}
 use Rattle.rel_linking.specs.Form.{Parts}
-use Rattle.rel_linking.specs.Scope.{entry_of, one_step}
-use Rattle.rel_linking.specs.declared.terms.Variable.{Variable}
+use Rattle.rel_linking.specs.Parts.{names_of}
+use Rattle.rel_linking.specs.Scope.{store_in, one_step}
+use Rattle.rel_linking.proofs.FormsScope.{distinct_to_end}
 
 pub zero_is : trm_of (Int (pos 0)) ≡ int (pos 0)
 zero_is = search (rules, the_lemmas)
 
-differ : (x y : Word) → x ≢ y → bytes_eq x y ≡ false
-differ x y h = unless (bytes_eq x y) (λ t. h ((bytes_eq-Decides x y).0 t))
-  where
-    unless : (b : Bool) → (b ≡ true → ⊥) → b ≡ false
-    unless true k = absurd (k refl)
-    unless false k = refl
+pub variable_is : (n : ℕ) → trm_of (Var n) ≡ var n
+variable_is n = search (rules, the_lemmas)
 
--- the variables before i have other names
-abbrev pub Passed : Word → List Variable → ℕ → Type 0
-Passed x vs i = All (λ v. x ≢ v.name) (take i vs)
+-- what is found for a name, added, and replaced
 
-pub look_up_at : (x : Word) (vs : List Variable) (i : ℕ) (v : Variable) → Passed x vs i → i < length vs → v ≡ get_or vs i v → x ≡ v.name
-    → look_up x (map entry_of vs) ≡ trm_of v.term
-look_up_at x [] i v a h is e = absurd (omega arith)
-look_up_at x (w ∷ ws) zero v a h is e =
-    ap (λ b. if b then trm_of w.term else look_up x (map entry_of ws)) ((bytes_eq-Decides x w.name).1 (e ∙ ap (λ u. u.name) is))
-    ∙ ap (λ u. trm_of u.term) (sym is)
-look_up_at x (w ∷ ws) (suc i) v a h is e =
-    ap (λ b. if b then trm_of w.term else look_up x (map entry_of ws)) (differ x w.name (a 0 w (omega arith)))
-    ∙ look_up_at x ws i v (λ k d l. a (suc k) d (omega arith)) (omega arith) is e
+pub look_up_found : (x : Word) (es : List (Word × Term)) (t : Term) → Some t ≡ find_entry x es → look_up x (store_in es) ≡ trm_of t
+look_up_found x [] t h = cc
+look_up_found x (e ∷ es) t h =
+    elim (bytes_eq x e.0) as (λ b. Some t ≡ (if b then Some e.1 else find_entry x es) → (if b then trm_of e.1 else look_up x (store_in es)) ≡ trm_of t) [
+      | true ↦ λ f. let same : t ≡ e.1 = cc in ap trm_of (sym same)
+      | false ↦ λ f. look_up_found x es t f
+    ] h
 
-pub look_up_none : (x : Word) (vs : List Variable) (i : ℕ) → Passed x vs i → length vs ≤ i → look_up x (map entry_of vs) ≡ int (pos 0)
-look_up_none x [] i a h = refl
-look_up_none x (w ∷ ws) zero a h = absurd (omega arith)
-look_up_none x (w ∷ ws) (suc i) a h =
-    ap (λ b. if b then trm_of w.term else look_up x (map entry_of ws)) (differ x w.name (a 0 w (omega arith))) ∙ look_up_none x ws i (λ k d l. a (suc k) d (omega arith)) (omega arith)
+pub look_up_none : (x : Word) (es : List (Word × Term)) → None ≡ find_entry x es → look_up x (store_in es) ≡ int (pos 0)
+look_up_none x [] h = refl
+look_up_none x (e ∷ es) h =
+    elim (bytes_eq x e.0) as (λ b. None ≡ (if b then Some e.1 else find_entry x es) → (if b then trm_of e.1 else look_up x (store_in es)) ≡ int (pos 0)) [
+      | true ↦ λ f. cc
+      | false ↦ λ f. look_up_none x es f
+    ] h
 
-pub with_term_at : (x : Word) (vs : List Variable) (i : ℕ) (v : Variable) (t : Term) → Passed x vs i → i < length vs → v ≡ get_or vs i v → x ≡ v.name
-    → with_term x (trm_of t) (map entry_of vs) ≡ map entry_of (set vs i (record { name = v.name; term = t }))
-with_term_at x [] i v t a h is e = absurd (omega arith)
-with_term_at x (w ∷ ws) zero v t a h is e =
-    ap (λ b. if b then (w.name, trm_of t) ∷ map entry_of ws else entry_of w ∷ with_term x (trm_of t) (map entry_of ws))
-    ((bytes_eq-Decides x w.name).1 (e ∙ ap (λ u. u.name) is))
-    ∙ ap (λ u. (u.name, trm_of t) ∷ map entry_of ws) (sym is)
-with_term_at x (w ∷ ws) (suc i) v t a h is e =
-    ap (λ b. if b then (w.name, trm_of t) ∷ map entry_of ws else entry_of w ∷ with_term x (trm_of t) (map entry_of ws)) (differ x w.name (a 0 w (omega arith)))
-    ∙ ap (λ s. entry_of w ∷ s) (with_term_at x ws i v t (λ k d l. a (suc k) d (omega arith)) (omega arith) is e)
+pub added : (x : Word) (t : Term) (es : List (Word × Term)) → store_in (with_entry es x t) ≡ with_entry (store_in es) x (trm_of t)
+added x t [] = refl
+added x t (e ∷ es) =
+    elim (bytes_eq x e.0) as (λ b. store_in (if b then e ∷ es else e ∷ with_entry es x t) ≡ (if b then (e.0, trm_of e.1) ∷ store_in es else (e.0, trm_of e.1) ∷ with_entry (store_in es) x (trm_of t))) [
+      | true ↦ refl
+      | false ↦ ap (λ r. (e.0, trm_of e.1) ∷ r) (added x t es)
+    ]
 
-pub with_term_none : (x : Word) (vs : List Variable) (i : ℕ) (t : Trm) → Passed x vs i → length vs ≤ i → with_term x t (map entry_of vs) ≡ map entry_of vs
-with_term_none x [] i t a h = refl
-with_term_none x (w ∷ ws) zero t a h = absurd (omega arith)
-with_term_none x (w ∷ ws) (suc i) t a h =
-    ap (λ b. if b then (w.name, t) ∷ map entry_of ws else entry_of w ∷ with_term x t (map entry_of ws)) (differ x w.name (a 0 w (omega arith)))
-    ∙ ap (λ s. entry_of w ∷ s) (with_term_none x ws i t (λ k d l. a (suc k) d (omega arith)) (omega arith))
+pub replaced : (x : Word) (t : Term) (es : List (Word × Term)) → store_in (with_value es x t) ≡ with_term x (trm_of t) (store_in es)
+replaced x t [] = refl
+replaced x t (e ∷ es) =
+    elim (bytes_eq x e.0) as (λ b. store_in (if b then (e.0, t) ∷ es else e ∷ with_value es x t) ≡ (if b then (e.0, trm_of t) ∷ store_in es else (e.0, trm_of e.1) ∷ with_term x (trm_of t) (store_in es))) [
+      | true ↦ refl
+      | false ↦ ap (λ r. (e.0, trm_of e.1) ∷ r) (replaced x t es)
+    ]
+
+-- ---- the start
+
+abbrev names : Terms → List Word
+names st = map (λ p. p.0) st
+
+among_middle : (st rest : Terms) (x : Word) (t : Trm) → IsAmong x (names (st ++ (x, t) ∷ rest))
+among_middle [] rest x t = inl refl
+among_middle (p ∷ ps) rest x t = inr (among_middle ps rest x t)
+
+-- a name that stands nowhere else is added at the end
+added_last : (st rest : Terms) (x : Word) (t : Trm) → AreDistinct (names (st ++ (x, t) ∷ rest)) → with_entry st x t ≡ st ++ (x, t) ∷ []
+added_last [] rest x t d = refl
+added_last (p ∷ ps) rest x t d =
+    (elim (bytes_eq x p.0) as (λ b. bytes_eq x p.0 ≡ b → (if b then p ∷ ps else p ∷ with_entry ps x t) ≡ p ∷ (ps ++ (x, t) ∷ [])) [
+      | true ↦ λ e. absurd (d.0 (subst (λ y. IsAmong y (names (ps ++ (x, t) ∷ rest))) ((bytes_eq-Decides x p.0).0 e) (among_middle ps rest x t)))
+      | false ↦ λ e. ap (λ r. p ∷ r) (added_last ps rest x t d.1)
+    ]) refl
+
+names_numbered : (n : ℕ) (ds : List D.Decl) → names (numbered n (map decl_of ds)) ≡ names_of ds ++ result_name ∷ []
+names_numbered n [] = refl
+names_numbered n (d ∷ ds) = ap (λ xs. d.name ∷ xs) (names_numbered (suc n) ds)
+
+-- the store has the first i globals
+abbrev pub HasFirst : Terms → ℕ → List D.Decl → ℕ → Type 0
+HasFirst st n ds i = st ++ numbered (n + i) (map decl_of (drop i ds)) ≡ numbered n (map decl_of ds)
+
+whole_distinct : (n : ℕ) (ds : List D.Decl) → AreDistinct (result_name ∷ names_of ds) → AreDistinct (names (numbered n (map decl_of ds)))
+whole_distinct n ds d = subst AreDistinct (sym (names_numbered n ds)) (distinct_to_end result_name (names_of ds) d)
+
+pub first_more : (st : Terms) (n : ℕ) (ds : List D.Decl) (i : ℕ) (d : D.Decl) → i < length ds → AreDistinct (result_name ∷ names_of ds) → HasFirst st n ds i
+    → HasFirst (with_entry st (get_or ds i d).name (var (n + i))) n ds (i + 1)
+first_more st n ds i d h apart is =
+    let x = (get_or ds i d).name in
+    let rest = numbered (n + (i + 1)) (map decl_of (drop (i + 1) ds)) in
+    let next : n + (i + 1) ≡ suc (n + i) = omega arith in
+    let opened : numbered (n + i) (map decl_of (drop i ds)) ≡ (x, var (n + i)) ∷ rest =
+    ap (λ es. numbered (n + i) (map decl_of es)) (drop_more ds i d h) ∙ ap (λ m. (x, var (n + i)) ∷ numbered m (map decl_of (drop (i + 1) ds))) (sym next) in
+    let whole : st ++ (x, var (n + i)) ∷ rest ≡ numbered n (map decl_of ds) = ap (λ r. st ++ r) (sym opened) ∙ is in
+    ap (λ s. s ++ rest) (added_last st rest x (var (n + i)) (subst (λ s. AreDistinct (names s)) (sym whole) (whole_distinct n ds apart)))
+    ∙ append_assoc st ((x, var (n + i)) ∷ []) rest ∙ whole
+
+pub first_all : (st : Terms) (n : ℕ) (ds : List D.Decl) (i : ℕ) → length ds ≤ i → AreDistinct (result_name ∷ names_of ds) → HasFirst st n ds i
+    → with_entry st result_name (int (pos 0)) ≡ numbered n (map decl_of ds)
+first_all st n ds i h apart is =
+    let whole : st ++ (result_name, int (pos 0)) ∷ [] ≡ numbered n (map decl_of ds) = ap (λ es. st ++ numbered (n + i) (map decl_of es)) (sym (drop_all i ds h)) ∙ is in
+    added_last st [] result_name (int (pos 0)) (subst (λ s. AreDistinct (names s)) (sym whole) (whole_distinct n ds apart)) ∙ whole
+
+pub ruleset starts = (first_more, first_all)
 
 -- a command's step comes before the walk along the rest
 pub walk_one : (st : Terms) (n at : ℕ) (f : Form) (cs : Block) → walk st n (Then (At at f) cs)
@@ -77,7 +124,7 @@ walk_one st n at (While p q b) cs = refl
 abbrev pub rest_of : Terms → ℕ → List Command → ℕ → Walked
 rest_of st n cs i = walk st (n + i) (block_of (drop i cs))
 
-pub ruleset scopes = (look_up_at, look_up_none, with_term_at, with_term_none)
+pub ruleset scopes = (look_up_found, look_up_none, added, replaced)
 
 -- from what the code computes
 pub obligation_is : (k : Parts) (l r p q : ℕ) (sorts : List Srt) (lt rt lt' rt' : Terms) (hyps more all : List Fml) (goal : Fml)

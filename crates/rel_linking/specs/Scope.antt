@@ -1,5 +1,5 @@
 -- The store that a side's variables stand for, what one command gives, and the obligation of a bundle.
-use Rattle.std.specs.Prelude.{◌≡◌, ℕ, map, Option, Some, None}
+use Rattle.std.specs.Prelude.{◌≡◌, ℕ, List, map, Option, Some, None}
 use Rattle.rel_lang.specs.Syntax.{Word, Form, At, Then, End, Bundle}
 use Rattle.rel_lang.specs.TrueBundle.{IsTrueBundle}
 use Rattle.rel_logic.specs.Truth.{IsValid}
@@ -7,20 +7,19 @@ use Rattle.rel_lang.specs.View.{unit_of, proc_of, judgement_of}
 use Rattle.rel_lang.specs.declared.bundle.UnitItem.{UnitItem}
 use Rattle.rel_lang.specs.declared.bundle.Proc.{Proc}
 use Rattle.rel_lang.specs.declared.bundle.Judgement.{Judgement}
-use Rattle.rel_logic.specs.Syntax.{Trm}
 use Rattle.rel_logic.specs.View.{trm_of, sequent_of}
 use Rattle.rel_logic.specs.declared.sequent.Sequent.{Sequent}
-use Rattle.rel_linking.specs.declared.terms.Variable.{Variable}
+use Rattle.rel_logic.specs.declared.term.Term.{Term}
 use Rattle.rel_linking.specs.declared.terms.Terms.{Terms}
 use Rattle.rel_linking.specs.Form.{Parts, IsStraight}
 use Rattle.rel_linking.specs.Parts.{AreJudged}
 use Rattle.rel_linking.specs.Obligation.{Store, Walked, walk, obligation_of}
 
-abbrev pub entry_of : Variable → Word × Trm
-entry_of v = (v.name, trm_of v.term)
+abbrev pub store_in : List (Word × Term) → Store
+store_in es = map (λ e. (e.0, trm_of e.1)) es
 
 abbrev pub store_of : Terms → Store
-store_of s = map entry_of s.variables.items
+store_of s = store_in s.variables
 
 -- what the parts of a bundle stand for
 abbrev pub parts_of : UnitItem → Proc → UnitItem → Proc → Judgement → Parts

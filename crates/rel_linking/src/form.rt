@@ -2,6 +2,6 @@
 
 mod judged;
 mod plain;
-mod scope;
+mod writes;
 
 pub use judged::are_judged;

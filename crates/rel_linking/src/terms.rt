@@ -1,15 +1,18 @@
 //! The sequent of a judgement about two straight procedures of ints.
 
-ghost use Rattle.std.specs.Prelude.{◌≡◌, ◌≢◌, ◌+◌, ◌<◌, ◌≤◌, ◌^◌, [], ◌∷◌, ◌++◌, length, map, take};
-ghost use Rattle.std.specs.Prelude.{get_or, replicate, All, IfOk, OnOk};
+ghost use Rattle.std.specs.Prelude.{◌≡◌, ◌+◌, ◌<◌, ◌^◌, [], ◌∷◌, ◌++◌, length, map, replicate, IfOk, OnOk};
+ghost use Rattle.rel_lang.specs.Scope.{result_name};
+ghost use Rattle.rel_lang.specs.Typed.{AreDistinct};
+ghost use Rattle.rel_flaws.specs.Entries.{with_entry};
+ghost use Rattle.rel_linking.specs.Parts.{names_of};
 ghost use Rattle.rel_lang.specs.View.{expression_of, form_of, rel_of, block_of, decl_of};
 ghost use Rattle.rel_logic.specs.Syntax.{int_sort, rgn_sort, bij_sort};
 ghost use Rattle.rel_logic.specs.View.{sort_of, trm_of, fml_of, sequent_of};
-ghost use Rattle.rel_linking.specs.declared.terms.Variable.{Variable};
 ghost use Rattle.rel_linking.specs.Scope.{store_of, one_step, parts_of};
 ghost use Rattle.rel_linking.specs.Obligation.{look_up, with_term, term_of, numbered, walk, inside};
 ghost use Rattle.rel_linking.specs.Obligation.{relation_of, obligation_of};
 
+use rel_flaws::index::Index;
 use rel_lang::bundle::{Decl, Judgement, Proc, UnitItem};
 use rel_lang::command::{Command, Form};
 use rel_lang::expr::Expr;
@@ -20,47 +23,27 @@ use rel_logic::sequent::Sequent;
 use rel_logic::term::{Sort, Term};
 use std::alloc::Global;
 
-/// A variable of a program, and the term that stands for it.
+/// The variables of one side, in the order of the scope, each with the term that stands for it.
 #[derive(Drop)]
-struct Variable {
-    name: Name,
-    term: Term,
+struct Terms<'a> {
+    variables: Index<'a, Term>,
 }
 
-/// The variables of one side, in the order of the scope.
-#[derive(Drop)]
-struct Terms {
-    variables: Vec<Variable>,
-}
-
-/// The index of the first variable of this name, or the number of variables.
-fn place(variables: &[Variable], x: &Name) -> usize
-    ensures within { result ≤ length variables.now }
-    ensures before { All (λ v. x.now ≢ v.name) (take result variables.now) }
-    ensures found { let vs = variables.now in
-        (v : Variable) → v ≡ get_or vs result v → result < length vs → x.now ≡ v.name }
-{
-    for i in 0..variables.len() {
-        if variables[i].name.is(x) {
-            return i;
-        }
-    }
-    variables.len()
-}
-
-impl Terms {
-    fn new(alloc: Global) -> Terms
+impl<'a> Terms<'a> {
+    fn new(alloc: Global) -> Terms<'a>
         ensures { store_of result ≡ [] }
     {
         Terms {
-            variables: Vec::new(alloc),
+            variables: Index::new(alloc),
         }
     }
 
-    fn add(&mut self, name: Name, term: Term) -> Result<(), Memory>
-        ensures { OnOk result (store_of self.new ≡ store_of self.old ++ (name, trm_of term) ∷ []) }
+    /// Adds a variable, unless it is there.
+    #[tactic(auto, using(crate::proofs::Obligations::scopes))]
+    fn add(&mut self, name: &'a str, term: Term) -> Result<(), Memory>
+        ensures { OnOk result (store_of self.new ≡ with_entry (store_of self.old) name.now (trm_of term)) }
     {
-        self.variables.push(Variable { name, term })?;
+        self.variables.insert(name, term)?;
         Ok(())
     }
 
@@ -69,11 +52,9 @@ impl Terms {
     fn of(&self, x: &Name) -> Result<Term, Memory>
         ensures { IfOk result (λ t. trm_of t ≡ look_up x.now (store_of self.now)) }
     {
-        let i = place(self.variables.as_slice(), x);
-        if i < self.variables.len() {
-            self.variables[i].term.copy()
-        } else {
-            Ok(Term::Int(0))
+        match self.variables.find(x.as_str()) {
+            Some(term) => term.copy(),
+            None => Ok(Term::Int(0)),
         }
     }
 
@@ -82,15 +63,12 @@ impl Terms {
     fn set(&mut self, x: &Name, term: Term)
         ensures { store_of self.new ≡ with_term x.now (trm_of term) (store_of self.old) }
     {
-        let i = place(self.variables.as_slice(), x);
-        if i < self.variables.len() {
-            self.variables[i].term = term;
-        }
+        self.variables.put(x.as_str(), term);
     }
 }
 
 /// The term of an arithmetic expression.
-fn term(alloc: Global, terms: &Terms, e: &Expr) -> Result<Term, Memory>
+fn term(alloc: Global, terms: &Terms<'_>, e: &Expr) -> Result<Term, Memory>
     ensures { IfOk result (λ t. trm_of t ≡ term_of (store_of terms.now) (expression_of e.now)) }
 {
     match e {
@@ -111,20 +89,27 @@ fn term(alloc: Global, terms: &Terms, e: &Expr) -> Result<Term, Memory>
 }
 
 /// Each global stands for a variable, numbered from `first` on, and the result for 0.
-fn start(alloc: Global, first: u32, globals: &List<Decl>) -> Result<Terms, Memory>
-    requires { first + length globals.now < 2 ^ 32 }
+#[tactic(auto, using(crate::proofs::Obligations::starts))]
+fn start<'a>(alloc: Global, first: u32, globals: &'a List<Decl>) -> Result<Terms<'a>, Memory>
+    requires few { first + length globals.now < 2 ^ 32 }
+    requires names { AreDistinct (result_name ∷ names_of globals.now) }
     ensures { IfOk result (λ s. store_of s ≡ numbered first (map decl_of globals.now)) }
 {
     let mut terms = Terms::new(alloc);
     for i in 0..globals.len() {
-        terms.add(globals.at(i).name.copy()?, Term::Var(first + i as u32))?;
+        terms.add(globals.at(i).name.as_str(), Term::Var(first + i as u32))?;
     }
-    terms.add(Name::new(alloc, "result")?, Term::Int(0))?;
+    terms.add("result", Term::Int(0))?;
     Ok(terms)
 }
 
 /// Both terms' values are equal on the two sides.
-fn relation(alloc: Global, left: &Terms, right: &Terms, r: &RelFormula) -> Result<Fol, Memory>
+fn relation(
+    alloc: Global,
+    left: &Terms<'_>,
+    right: &Terms<'_>,
+    r: &RelFormula,
+) -> Result<Fol, Memory>
     ensures { let related = relation_of (store_of left.now) (store_of right.now) (rel_of r.now) in
         IfOk result (λ f. fml_of f ≡ related) }
 {
@@ -150,7 +135,7 @@ fn pairs_inside(alloc: Global, bijection: u32, left: u32, right: u32) -> Result<
 /// Adds the equation of a command, whose new value is the variable `n`.
 fn step(
     alloc: Global,
-    terms: &mut Terms,
+    terms: &mut Terms<'_>,
     n: u32,
     form: &Form,
     hyps: &mut List<Fol>,
@@ -174,7 +159,7 @@ fn step(
 /// Adds the equations of a block, whose new values are the variables from `first` on.
 fn walk_block(
     alloc: Global,
-    terms: &mut Terms,
+    terms: &mut Terms<'_>,
     first: u32,
     commands: &List<Command>,
     hyps: &mut List<Fol>,
@@ -222,8 +207,8 @@ fn first_hyps(
     alloc: Global,
     left_alloc: u32,
     right_alloc: u32,
-    left: &Terms,
-    right: &Terms,
+    left: &Terms<'_>,
+    right: &Terms<'_>,
     needs: &RelFormula,
 ) -> Result<List<Fol>, Memory>
     requires { right_alloc + 1 < 2 ^ 32 }
@@ -246,6 +231,8 @@ pub fn sequent(
     right_proc: &Proc,
     judgement: &Judgement,
 ) -> Result<Sequent, Memory>
+    requires left_names { AreDistinct (result_name ∷ names_of left.now.globals) }
+    requires right_names { AreDistinct (result_name ∷ names_of right.now.globals) }
     requires left_globals { length left.now.globals < 2 ^ 30 }
     requires right_globals { length right.now.globals < 2 ^ 30 }
     requires left_commands { length left_proc.now.body.commands < 2 ^ 30 }

@@ -1,95 +1,83 @@
 //! What is asked of the two units and the judgement.
 
-ghost use Rattle.std.specs.Prelude.{◌↔◌, IsTrue};
+ghost use Rattle.std.specs.Prelude.{◌↔◌, IsTrue, IfOk};
 ghost use Rattle.rel_lang.specs.Syntax.{Given};
 ghost use Rattle.rel_lang.specs.View.{rel_of, align_of, biform_of, biblock_of, block_of};
-ghost use Rattle.rel_linking.specs.Form.{IsSplitOf};
-ghost use Rattle.rel_linking.specs.Parts.{visible, ReadsRel, held, IsNamed, IsSplitForm, IsJudged, AreJudged};
+ghost use Rattle.rel_linking.specs.Form.{IsAgreement, IsSplitOf};
+ghost use Rattle.rel_linking.specs.Parts.{held, IsAbout, IsSplitForm, IsJudged, AreJudged};
 
-use crate::form::plain::is_plain;
-use crate::form::scope::reads_only;
+use crate::form::plain::{is_arithmetic, is_plain};
 use rel_lang::biprogram::{Align, BiCommand, BiForm};
-use rel_lang::bundle::{Decl, Judgement, Proc, UnitItem};
+use rel_lang::bundle::{Judgement, Proc, UnitItem};
 use rel_lang::command::{Command, same_commands};
 use rel_lang::relation::RelFormula;
-use rel_list::List;
+use rel_list::{List, Memory};
+use std::alloc::Global;
 
 /// Whether the units have one procedure each, and these and the judgement are such that they can be judged.
-pub fn are_judged(left: &UnitItem, right: &UnitItem, judgement: &Judgement) -> bool
-    ensures { IsTrue result ↔ AreJudged left.now right.now judgement.now }
+pub fn are_judged(
+    alloc: Global,
+    left: &UnitItem,
+    right: &UnitItem,
+    judgement: &Judgement,
+) -> Result<bool, Memory>
+    ensures { IfOk result (λ judged. IsTrue judged ↔ AreJudged left.now right.now judgement.now) }
 {
     if left.procs.len() != 1 {
-        return false;
+        return Ok(false);
     }
     if right.procs.len() != 1 {
-        return false;
+        return Ok(false);
     }
-    is_judged(left, left.procs.at(0), right, right.procs.at(0), judgement)
+    let judged = is_judged(
+        alloc,
+        left,
+        left.procs.at(0),
+        right,
+        right.procs.at(0),
+        judgement,
+    )?;
+    Ok(judged)
 }
 
 fn is_judged(
+    alloc: Global,
     left: &UnitItem,
     left_proc: &Proc,
     right: &UnitItem,
     right_proc: &Proc,
     judgement: &Judgement,
-) -> bool
-    ensures { IsTrue result
-        ↔ IsJudged (held left.now left_proc.now right.now right_proc.now judgement.now) }
+) -> Result<bool, Memory>
+    ensures { let all = held left.now left_proc.now right.now right_proc.now judgement.now in
+        IfOk result (λ judged. IsTrue judged ↔ IsJudged all) }
 {
-    is_plain(left, left_proc)
-        && is_plain(right, right_proc)
-        && is_named(left, left_proc, right, right_proc, judgement)
-        && reads_sides(
-            &judgement.needs.formula,
-            &left.globals,
-            &right.globals,
-            false,
-        )
-        && reads_sides(
-            &judgement.gives.formula,
-            &left.globals,
-            &right.globals,
-            true,
-        )
-        && is_split(
-            &judgement.align,
-            &left_proc.body.commands,
-            &right_proc.body.commands,
-        )
+    let left_plain = is_plain(alloc, left, left_proc)?;
+    let right_plain = is_plain(alloc, right, right_proc)?;
+    Ok(
+        left_plain
+            && right_plain
+            && is_about(left, right, judgement)
+            && is_agreement(&judgement.needs.formula)
+            && is_agreement(&judgement.gives.formula)
+            && is_split(
+                &judgement.align,
+                &left_proc.body.commands,
+                &right_proc.body.commands,
+            ),
+    )
 }
 
-fn is_named(
-    left: &UnitItem,
-    left_proc: &Proc,
-    right: &UnitItem,
-    right_proc: &Proc,
-    judgement: &Judgement,
-) -> bool
-    ensures { IsTrue result
-        ↔ IsNamed (held left.now left_proc.now right.now right_proc.now judgement.now) }
+fn is_about(left: &UnitItem, right: &UnitItem, judgement: &Judgement) -> bool
+    ensures { IsTrue result ↔ IsAbout left.now right.now judgement.now }
 {
-    judgement.left.0.is(&left.name)
-        && judgement.left.1.is(&left_proc.name)
-        && judgement.right.0.is(&right.name)
-        && judgement.right.1.is(&right_proc.name)
-        && !left.name.is(&right.name)
-        && !left.name.is(&judgement.name)
-        && !right.name.is(&judgement.name)
+    judgement.left.0.is(&left.name) && judgement.right.0.is(&right.name)
 }
 
-fn reads_sides(
-    formula: &RelFormula,
-    left: &List<Decl>,
-    right: &List<Decl>,
-    with_result: bool,
-) -> bool
-    ensures { IsTrue result
-        ↔ ReadsRel (visible with_result left.now) (visible with_result right.now) (rel_of formula.now) }
+fn is_agreement(formula: &RelFormula) -> bool
+    ensures { IsTrue result ↔ IsAgreement (rel_of formula.now) }
 {
     match formula {
-        RelFormula::Agree(e, f) => reads_only(e, left, with_result)
-            && reads_only(f, right, with_result),
+        RelFormula::Agree(e, f) => is_arithmetic(e) && is_arithmetic(f),
         _ => false,
     }
 }

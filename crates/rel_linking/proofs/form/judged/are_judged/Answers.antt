@@ -6,4 +6,4 @@ pub returns : goal.returns
 returns c =
     let left : length c.args.left.now.procs ≡ 1 = omega arith in
     let right : length c.args.right.now.procs ≡ 1 = omega arith in
-    judged_alone c.args.left.now c.args.right.now c.args.judgement.now c.at.result.now c.at-2.result.now c.is_judged.result left right c.at.ensures c.at-2.ensures c.is_judged.ensures
+    judged_alone c.args.left.now c.args.right.now c.args.judgement.now c.at.result.now c.at-2.result.now c.in_ok-judged.judged left right c.at.ensures c.at-2.ensures c.in_ok-judged.ensures

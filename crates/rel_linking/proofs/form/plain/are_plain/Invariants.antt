@@ -4,4 +4,4 @@ use Rattle.rel_linking.specs.Parts.{IsPlainIn}
 use Rattle.rel_linking.proofs.form.plain.are_plain.Given as goal
 
 abbrev pub invariant-loop-i : goal.invariant-loop-i
-invariant-loop-i l = AllByRecursion (IsPlainIn l.writes l.globals) l.commands ↔ AllByRecursion (IsPlainIn l.writes l.globals) (drop l.i l.commands)
+invariant-loop-i l = AllByRecursion (IsPlainIn l.names) l.commands ↔ AllByRecursion (IsPlainIn l.names) (drop l.i l.commands)

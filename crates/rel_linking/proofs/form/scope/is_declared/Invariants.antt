@@ -1,7 +1,0 @@
-use Rattle.std.proofs.Common.{◌↔◌, drop}
-use Rattle.rel_lang.specs.Typed.{IsAmong}
-use Rattle.rel_linking.specs.Parts.{names_of}
-use Rattle.rel_linking.proofs.form.scope.is_declared.Given as goal
-
-abbrev pub invariant-loop-i : goal.invariant-loop-i
-invariant-loop-i l = IsAmong l.x (names_of (drop l.start l.declared)) ↔ IsAmong l.x (names_of (drop l.i l.declared))
