@@ -1,14 +1,13 @@
 //! What an interface gives to modules and clients, where it is there.
 
-ghost use Rattle.std.specs.Prelude.{◌≡◌, [], Option, map, IfOk};
-ghost use Rattle.rel_flaws.specs.View.{layers_seen, tables_seen, flaws_of};
+ghost use Rattle.std.specs.Prelude.{◌≡◌, Option, map, IfOk};
+ghost use Rattle.rel_flaws.specs.View.{tables_seen, flaws_of};
 ghost use Rattle.rel_lang.specs.Lookup.{find_method};
 ghost use Rattle.rel_lang.specs.Syntax as syntax;
 ghost use Rattle.rel_lang.specs.View.{decl_of};
 ghost use Rattle.rel_types.specs.Items as items;
 ghost use Rattle.rel_types.specs.Items.{setting_in_module, methods_of_interface};
 ghost use Rattle.rel_types.specs.ModuleView.{IsNoInterface, IsGiven, HasOwn};
-ghost use Rattle.rel_types.specs.OwnView.{globals_in};
 
 use crate::around::Globals;
 use crate::items::flaws_of_globals;
@@ -16,7 +15,7 @@ use crate::known::InterfaceSeen;
 use crate::own::Own;
 use rel_flaws::index::Index;
 use rel_flaws::kind::Flaws;
-use rel_flaws::scope::{Layers, Seen, Tables};
+use rel_flaws::scope::Tables;
 use rel_lang::bundle::Decl;
 use rel_list::{List, Memory};
 use std::alloc::Global;
@@ -29,23 +28,6 @@ pub(crate) fn no_interface<'a>(alloc: Global) -> InterfaceSeen<'a>
         globals: Index::new(alloc),
         methods: Index::new(alloc),
         names: Vec::new(alloc),
-    }
-}
-
-/// The globals, with no other variables.
-pub(crate) fn globals_alone<'a, 's>(
-    globals: Globals<'a, 's>,
-    none: &'s Index<'a, Seen<'a>>,
-) -> Layers<'a, 's>
-    requires { none.now ≡ [] }
-    ensures { layers_seen result ≡ globals_in globals.entry }
-{
-    Layers {
-        interface: globals.interface,
-        globals: globals.own,
-        params: none,
-        locals: none,
-        result: none,
     }
 }
 

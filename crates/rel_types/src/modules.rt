@@ -9,18 +9,16 @@ ghost use Rattle.rel_lang.specs.View.{module_of, body_of};
 ghost use Rattle.rel_types.specs.Items as items;
 ghost use Rattle.rel_types.specs.Known.{BothAre, IsInterfaceSeen};
 ghost use Rattle.rel_types.specs.ModuleView.{IsNoInterface, IsGiven, HasOwn, IsAroundModule, flaws_of_module, fault_of_body, bodies_fault_of};
-ghost use Rattle.rel_types.specs.OwnView.{globals_in};
 
 use crate::around::{Around, Globals};
 use crate::declarations::add_all;
-use crate::given::{flaws_of_declared, globals_alone, no_interface, own_of_method};
-use crate::items::clause_fault;
+use crate::given::{flaws_of_declared, no_interface, own_of_method};
 use crate::known::InterfaceSeen;
-use crate::members::module_body_fault;
+use crate::members::{clause_fault_in, module_body_fault};
 use crate::own::Own;
 use rel_flaws::index::Index;
 use rel_flaws::kind::{Fault, Flaws, Pass};
-use rel_flaws::scope::{Scope, Tables};
+use rel_flaws::scope::Tables;
 use rel_lang::bundle::{Body, Module};
 use rel_list::{List, Memory, Name};
 use std::alloc::Global;
@@ -158,24 +156,6 @@ fn bodies_fault<'a>(
     }
 }
 
-/// The invariant.
-fn invariant_fault<'a>(
-    alloc: Global,
-    tables: &Tables<'a>,
-    pass: Pass,
-    none: &InterfaceSeen<'a>,
-    globals: Globals<'a, '_>,
-    item: &'a Module,
-) -> Result<Option<Fault>, Memory>
-    requires { IsNoInterface none.now }
-    ensures { IfOk result (λ f. option_map fault_of f
-        ≡ items.clause_fault (tables_seen tables.now) (pass_of pass) false (globals_in globals.entry) (module_of item.now).invariant) }
-{
-    let mut scope = Scope::new(alloc, globals_alone(globals, &none.globals));
-    let fault = clause_fault(tables, pass, false, &mut scope, &item.invariant)?;
-    Ok(fault)
-}
-
 /// The invariant, then the bodies.
 fn inside_fault<'a, 's>(
     alloc: Global,
@@ -201,7 +181,8 @@ fn inside_fault<'a, 's>(
         procs: &none.methods,
         methods: &given.methods,
     };
-    match invariant_fault(alloc, tables, pass, none, globals, item)? {
+    let seen = globals.alone(&none.globals);
+    match clause_fault_in(alloc, tables, pass, false, seen, &item.invariant)? {
         Some(fault) => Ok(Some(fault)),
         None => {
             let fault = bodies_fault(alloc, tables, pass, given, around, item)?;

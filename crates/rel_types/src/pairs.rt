@@ -15,7 +15,7 @@ ghost use Rattle.rel_types.specs.ModuleView.{IsNoInterface, IsGiven, HasOwn, IsB
 
 use crate::aligned::{BodySeen, aligned_fault, code_of_body, relation_fault};
 use crate::around::{Around, Globals};
-use crate::given::{globals_alone, no_interface, own_of_method};
+use crate::given::{no_interface, own_of_method};
 use crate::known::{InterfaceSeen, Known, ModuleSeen};
 use crate::own::Own;
 use rel_flaws::kind::{Fault, Flaws, Pass};
@@ -290,8 +290,8 @@ fn inside_fault<'a>(
     let left = init_in(modules.none, modules.interface, modules.left);
     let right = init_in(modules.none, modules.interface, modules.right);
     let none = &modules.none.globals;
-    let globals = globals_alone(left.around.globals, none);
-    let others = globals_alone(right.around.globals, none);
+    let globals = left.around.globals.alone(none);
+    let others = right.around.globals.alone(none);
     match relation_fault(alloc, known, pass, false, globals, others, &pair.coupling)? {
         Some(fault) => Ok(Some(fault)),
         None => match bodies_fault(alloc, known, pass, left, right, &pair.init.1)? {

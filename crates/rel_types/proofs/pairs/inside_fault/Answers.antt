@@ -13,9 +13,9 @@ returns-in-Some c b i m n k =
     let left = c.init_in-left.ensures i m k.interface k.left in
     let right = c.init_in-right.ensures i n k.interface k.right in
     some_first _ _ _ (sym (ap (option_map fault_of) c.in-Some.is) ∙ c.in_ok-fault.ensures b (globals_of_side i m) (globals_of_side i n) k.known
-    (λ x. ap (λ sc. option_map without_owner (find_variable x sc)) c.globals_alone-globals.ensures
+    (λ x. ap (λ sc. option_map without_owner (find_variable x sc)) c.alone-globals.ensures
     ∙ side_globals i m (setting_of c.init_in-left.result.around.globals c.init_in-left.result.own) left.setting x)
-    (λ x. ap (λ sc. option_map without_owner (find_variable x sc)) c.globals_alone-others.ensures
+    (λ x. ap (λ sc. option_map without_owner (find_variable x sc)) c.alone-others.ensures
     ∙ side_globals i n (setting_of c.init_in-right.result.around.globals c.init_in-right.result.own) right.setting x))
 
 pub returns-in-Some-2 : goal.returns-in-Some-2
@@ -23,9 +23,9 @@ returns-in-Some-2 c b i m n k =
     let left = c.init_in-left.ensures i m k.interface k.left in
     let right = c.init_in-right.ensures i n k.interface k.right in
     none_first _ _ _ (sym (ap (option_map fault_of) c.in-None.is) ∙ c.in_ok-fault.ensures b (globals_of_side i m) (globals_of_side i n) k.known
-    (λ x. ap (λ sc. option_map without_owner (find_variable x sc)) c.globals_alone-globals.ensures
+    (λ x. ap (λ sc. option_map without_owner (find_variable x sc)) c.alone-globals.ensures
     ∙ side_globals i m (setting_of c.init_in-left.result.around.globals c.init_in-left.result.own) left.setting x)
-    (λ x. ap (λ sc. option_map without_owner (find_variable x sc)) c.globals_alone-others.ensures
+    (λ x. ap (λ sc. option_map without_owner (find_variable x sc)) c.alone-others.ensures
     ∙ side_globals i n (setting_of c.init_in-right.result.around.globals c.init_in-right.result.own) right.setting x))
     (some_first _ _ _ (sym (ap (option_map fault_of) c.in-Some-2.is) ∙ c.in_ok-fault-in-None.ensures b i _ _ k.known left right))
 
@@ -34,9 +34,9 @@ returns-in_ok-fault-in-None-2 c b i m n k =
     let left = c.init_in-left.ensures i m k.interface k.left in
     let right = c.init_in-right.ensures i n k.interface k.right in
     none_first _ _ _ (sym (ap (option_map fault_of) c.in-None.is) ∙ c.in_ok-fault.ensures b (globals_of_side i m) (globals_of_side i n) k.known
-    (λ x. ap (λ sc. option_map without_owner (find_variable x sc)) c.globals_alone-globals.ensures
+    (λ x. ap (λ sc. option_map without_owner (find_variable x sc)) c.alone-globals.ensures
     ∙ side_globals i m (setting_of c.init_in-left.result.around.globals c.init_in-left.result.own) left.setting x)
-    (λ x. ap (λ sc. option_map without_owner (find_variable x sc)) c.globals_alone-others.ensures
+    (λ x. ap (λ sc. option_map without_owner (find_variable x sc)) c.alone-others.ensures
     ∙ side_globals i n (setting_of c.init_in-right.result.around.globals c.init_in-right.result.own) right.setting x))
     (none_first _ _ _ (sym (ap (option_map fault_of) c.in-None-2.is) ∙ c.in_ok-fault-in-None.ensures b i _ _ k.known left right)
     (c.in_ok-fault-in-None-2.ensures b i m n k))
