@@ -104,7 +104,13 @@ fn flaws_of_load<'a>(tables: &Tables<'a>, scope: &Scope<'a, '_>, x: &str, y: &st
     }
 }
 
-fn flaws_of_store<'a>(tables: &Tables<'a>, scope: &Scope<'a, '_>, y: &str, f: &str, e: &Expr) -> Flaws
+fn flaws_of_store<'a>(
+    tables: &Tables<'a>,
+    scope: &Scope<'a, '_>,
+    y: &str,
+    f: &str,
+    e: &Expr,
+) -> Flaws
     ensures { flaws_of result ≡ commands.flaws_of_store (tables_seen tables.now) (scope_of scope.now) y.now (expression_of e.now) (find_field (tables_seen tables.now) f.now) }
 {
     match tables.field(f) {

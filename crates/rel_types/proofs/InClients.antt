@@ -1,5 +1,5 @@
 -- The procedures of a client: their names, and what surrounds them.
-use Rattle.std.proofs.Common.{◌≡◌, ℕ, suc, ◌+◌, ◌<◌, ◌≤◌, Bool, true, false, not, ◌&&◌, ◌||◌, if◌then◌else◌, List, [], ◌∷◌, ◌++◌, map, length, get_or, drop, Option, Some, None, option_map, refl, sym, ap, ap₂, ◌∙◌, arith}
+use Rattle.std.proofs.Common.{◌≡◌, ℕ, suc, ◌+◌, ◌<◌, ◌≤◌, true, false, ◌||◌, if◌then◌else◌, List, [], ◌∷◌, ◌++◌, map, length, get_or, drop, Option, Some, None, option_map, refl, sym, ap, ap₂, ◌∙◌, arith}
 use Rattle.std.specs.Prelude.{bytes_eq, is_some}
 use Rattle.std.proofs.Math.ListN.{drop_of_length-le}
 use Rattle.std.proofs.Math.Seq.{drop-cons}
@@ -15,7 +15,7 @@ use Rattle.rel_flaws.specs.CodeView.{callee_of, callees_seen}
 use Rattle.rel_flaws.specs.Inference.{is_among}
 use Rattle.rel_flaws.proofs.Callees.{found_callee}
 use Rattle.rel_flaws.specs.declared.code.Callee.{Callee}
-use Rattle.rel_types.specs.Items.{first_named, methods_of_interface, signatures_of, flaws_of_client_proc, proc_fault, setting_in_client, callees_in_client}
+use Rattle.rel_types.specs.Items.{first_named, methods_of_interface, signatures_of, proc_fault, setting_in_client, callees_in_client}
 use Rattle.rel_types.specs.Called.{SameCallees}
 use Rattle.rel_types.specs.ClientView.{fault_of_proc, is_main_with_parameters}
 use Rattle.rel_types.specs.Lookups.{SameNames}

@@ -1,5 +1,5 @@
 -- The first fault of each kind of item, and of a list of items.
-use Rattle.std.proofs.Common.{◌≡◌, ℕ, ◌+◌, ◌<◌, ◌≤◌, Bool, List, [], ◌∷◌, ◌++◌, map, suc, drop, get_or, length, Option, Some, None, option_map, refl, sym, ap, ap₂, subst, ◌∙◌, arith}
+use Rattle.std.proofs.Common.{◌≡◌, ℕ, ◌+◌, ◌<◌, ◌≤◌, Bool, List, [], ◌∷◌, ◌++◌, map, suc, drop, get_or, length, Option, Some, None, refl, sym, ap, ap₂, subst, ◌∙◌, arith}
 use Rattle.std.specs.Prelude.{bytes_eq, ◌||◌}
 use Rattle.std.proofs.Math.Seq.{drop-cons}
 use Rattle.std.proofs.lemmas.List.{drop_all}
@@ -7,7 +7,7 @@ use Rattle.rel_lang.specs.Syntax.{Word, Interface, Item, OfClass, OfInterface, O
 use Rattle.rel_lang.specs.State.{tables_of}
 use Rattle.rel_lang.specs.Lookup.{find_interface, find_module, subject_of}
 use Rattle.rel_lang.specs.Typed.{item_name}
-use Rattle.rel_lang.specs.View.{class_of, interface_of, module_of, unit_of, client_of, judgement_of, pair_of, item_of}
+use Rattle.rel_lang.specs.View.{class_of, interface_of, module_of, unit_of, client_of, item_of}
 use Rattle.rel_lang.specs.declared.bundle.Class as C
 use Rattle.rel_lang.specs.declared.bundle.Interface as N
 use Rattle.rel_lang.specs.declared.bundle.Module as M
@@ -19,7 +19,7 @@ use Rattle.rel_flaws.specs.Entries.{find_entry}
 use Rattle.rel_flaws.specs.Flaws.{Flaws, flawless, either, Pass, Fault, fault_at, first_of}
 use Rattle.rel_flaws.specs.Inference.{is_among, have_unknown_types}
 use Rattle.rel_flaws.specs.View.{tables_seen}
-use Rattle.rel_types.specs.Items.{repeats, declared_names, twice_where, class_fault, interface_fault, module_fault, unit_fault, client_fault, judgement_fault, pair_fault, interface_of_module, fields_of_item, item_fault, items_fault}
+use Rattle.rel_types.specs.Items.{declared_names, twice_where, class_fault, interface_fault, module_fault, unit_fault, client_fault, judgement_fault, pair_fault, interface_of_module, fields_of_item, item_fault, items_fault}
 use Rattle.rel_types.specs.Known.{BothAre, IsInterfaceSeen, IsKnown}
 use Rattle.rel_types.specs.Lookups.{SameNames}
 use Rattle.rel_types.specs.declared.known.InterfaceSeen as S

@@ -1,6 +1,6 @@
 -- The classes and the fields of a list of items, one item after the other.
-use Rattle.std.proofs.Common.{◌≡◌, ℕ, suc, ◌+◌, ◌<◌, ◌≤◌, Bool, true, false, ◌||◌, List, [], ◌∷◌, ◌++◌, map, take, drop, get_or, length, Option, Some, None, refl, sym, ap, ap₂, subst, ◌∙◌, append_assoc, append-nil}
-use Rattle.std.specs.Prelude.{bytes_eq, is_some}
+use Rattle.std.proofs.Common.{◌≡◌, ℕ, suc, ◌+◌, ◌<◌, ◌≤◌, Bool, true, false, ◌||◌, List, [], ◌∷◌, ◌++◌, map, take, drop, get_or, length, None, refl, sym, ap, ap₂, ◌∙◌, append_assoc, append-nil}
+use Rattle.std.specs.Prelude.{is_some}
 use Rattle.std.proofs.Math.Seq.{drop-cons}
 use Rattle.std.proofs.lemmas.List.{take_more, take_all, map-append, take-append-drop}
 use Rattle.std.proofs.lemmas.Slice.Eq.{bytes_eq-Decides}
@@ -14,7 +14,6 @@ use Rattle.rel_lang.specs.declared.bundle.Item.TheVariants as IV
 use Rattle.rel_lang.specs.declared.typed.FieldInfo as F
 use Rattle.rel_flaws.specs.Entries.{find_entry}
 use Rattle.rel_flaws.specs.Inference.{is_among, is_class}
-use Rattle.rel_flaws.specs.View.{tables_seen}
 use Rattle.rel_flaws.proofs.Indexes.{is_listed}
 use Rattle.rel_types.specs.Known.{IsKnown}
 use Rattle.rel_types.specs.Numbers.{NumberedField, field_infos, infos_of_class, numbered}

@@ -1,8 +1,6 @@
 -- What the code and the clauses about the procedure on one side of a judgement see.
-use Rattle.std.proofs.Common.{◌≡◌, Bool, true, Option, Some, None}
-use Rattle.rel_lang.specs.State.{Scope}
+use Rattle.std.proofs.Common.{true, Option, Some, None}
 use Rattle.rel_lang.specs.Scope.{Setting, pre_scope, post_scope, body_scope}
-use Rattle.rel_lang.specs.Typed.{Signature}
 use Rattle.rel_lang.specs.Lookup.{Subject}
 use Rattle.rel_flaws.specs.Code.{Code}
 use Rattle.rel_types.specs.Items.{pre_scope_of_subject, post_scope_of_subject, code_of_subject}

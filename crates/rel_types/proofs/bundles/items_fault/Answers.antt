@@ -1,4 +1,4 @@
-use Rattle.std.proofs.Common.{◌≡◌, sym, ap, option_map, ◌∙◌, [], map}
+use Rattle.std.proofs.Common.{sym, ap, option_map, ◌∙◌, [], map}
 use Rattle.rel_flaws.specs.View.{pass_of, fault_of}
 use Rattle.rel_lang.specs.View.{item_of}
 use Rattle.rel_types.specs.Items as definition

@@ -1,8 +1,5 @@
-use Rattle.std.proofs.Common.{◌++◌, map, ap, ◌∙◌}
-use Rattle.rel_lang.specs.State.{ByClient, find_named}
-use Rattle.rel_lang.specs.Typed.{signature_of_proc}
-use Rattle.rel_lang.specs.View.{client_of, proc_of}
-use Rattle.rel_flaws.specs.CodeView.{callees_seen}
+use Rattle.rel_lang.specs.State.{ByClient}
+use Rattle.rel_lang.specs.View.{client_of}
 use Rattle.rel_types.proofs.InModules.{declared_alone}
 use Rattle.rel_types.proofs.InClients.{procs_alone}
 use Rattle.rel_types.proofs.clients.given_fault.Goals as goal

@@ -1,10 +1,8 @@
-use Rattle.std.proofs.Common.{true, false, Option, Some, option_map, sym, ap, ap₂, refl, ◌∙◌}
-use Rattle.rel_flaws.specs.View.{pass_of, fault_of, layers_seen}
+use Rattle.std.proofs.Common.{Option, Some, option_map, sym, ap, ap₂, refl, ◌∙◌}
+use Rattle.rel_flaws.specs.View.{fault_of}
 use Rattle.rel_lang.specs.Syntax.{Word}
-use Rattle.rel_lang.specs.State.{tables_of}
 use Rattle.rel_lang.specs.Lookup.{judgements_of}
-use Rattle.rel_lang.specs.View.{rel_clause_of, align_of}
-use Rattle.rel_types.specs.Items.{rel_clause_fault, pre_scope_of_subject, post_scope_of_subject, code_of_subject}
+use Rattle.rel_types.specs.Items.{pre_scope_of_subject, post_scope_of_subject, code_of_subject}
 use Rattle.rel_types.specs.OwnView.{setting_of}
 use Rattle.rel_types.specs.SubjectView.{setting_of_subject, callees_of_subject}
 use Rattle.rel_types.proofs.Both.{some_first, none_first}

@@ -1,5 +1,5 @@
 use Rattle.std.proofs.Common.{None, option_map, sym, ap, ◌∙◌}
-use Rattle.rel_lang.specs.View.{body_of, module_of}
+use Rattle.rel_lang.specs.View.{module_of}
 use Rattle.rel_flaws.specs.View.{tables_seen, pass_of, fault_of}
 use Rattle.rel_types.specs.Items.{signatures_of}
 use Rattle.rel_types.specs.OwnView.{callees_in}

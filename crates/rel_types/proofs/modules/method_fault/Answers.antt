@@ -1,4 +1,4 @@
-use Rattle.std.proofs.Common.{map, sym, ap, ◌∙◌}
+use Rattle.std.proofs.Common.{map, ◌∙◌}
 use Rattle.rel_lang.specs.Lookup.{find_method}
 use Rattle.rel_lang.specs.View.{decl_of, body_of}
 use Rattle.rel_flaws.specs.View.{tables_seen, pass_of}

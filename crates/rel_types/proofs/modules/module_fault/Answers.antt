@@ -1,7 +1,6 @@
 use Rattle.std.proofs.Common.{option_map, sym, ap, ◌∙◌}
-use Rattle.rel_lang.specs.View.{module_of}
 use Rattle.rel_flaws.specs.Flaws.{fault_at, either}
-use Rattle.rel_flaws.specs.View.{tables_seen, flaws_of, fault_of, pass_of}
+use Rattle.rel_flaws.specs.View.{flaws_of, fault_of, pass_of}
 use Rattle.rel_types.proofs.Both.{some_first, none_first}
 use Rattle.rel_types.proofs.InModules.{unwrapped}
 use Rattle.rel_types.proofs.modules.module_fault.Goals as goal

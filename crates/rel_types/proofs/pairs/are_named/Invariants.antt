@@ -1,4 +1,4 @@
-use Rattle.std.proofs.Common.{◌≡◌, List, map, length}
+use Rattle.std.proofs.Common.{◌≡◌}
 use Rattle.rel_types.proofs.SameNames.{same_from}
 use Rattle.rel_types.proofs.pairs.are_named.Given as goal
 

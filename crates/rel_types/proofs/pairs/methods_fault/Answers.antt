@@ -1,4 +1,4 @@
-use Rattle.std.proofs.Common.{Option, option_map, sym, ap, ◌∙◌}
+use Rattle.std.proofs.Common.{option_map, sym, ap, ◌∙◌}
 use Rattle.rel_lang.specs.View.{align_of}
 use Rattle.rel_flaws.specs.Flaws.{first_in}
 use Rattle.rel_flaws.specs.View.{pass_of, fault_of}

@@ -1,4 +1,4 @@
-use Rattle.std.proofs.Common.{◌≡◌, sym, ap, ◌∙◌}
+use Rattle.std.proofs.Common.{sym, ap, ◌∙◌}
 use Rattle.std.specs.Prelude.{is_some}
 use Rattle.rel_flaws.specs.Entries.{find_entry, with_entry}
 use Rattle.rel_flaws.proofs.Indexes.{entries, added, kept}
