@@ -756,8 +756,14 @@ fn other_items_are_refused(rt: HostRuntime) -> Result<(), Fail> {
         ([FIRST, SECOND, "", ""], NO_BUNDLE),
         ([FIRST, "", "", ""], NO_BUNDLE),
         (["", "", JUDGE, ""], "1|refused Typing Unknown at 0\n"),
-        ([FIRST, "unit V { }", JUDGE, ""], "1|refused Typing Unknown at 133\n"),
-        (["unit U { }", SECOND, JUDGE, ""], "1|refused Typing Unknown at 116\n"),
+        (
+            [FIRST, "unit V { }", JUDGE, ""],
+            "1|refused Typing Unknown at 133\n",
+        ),
+        (
+            ["unit U { }", SECOND, JUDGE, ""],
+            "1|refused Typing Unknown at 116\n",
+        ),
         ([FIRST, JUDGE, SECOND, ""], NO_BUNDLE),
         ([FIRST, SECOND, JUDGE, second_judge], NO_BUNDLE),
     ];
