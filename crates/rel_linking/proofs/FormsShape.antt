@@ -1,4 +1,4 @@
--- Lists of one and of three, and biprograms of one command.
+-- Lists of one, and biprograms of one command.
 use Rattle.std.proofs.Common.{◌≡◌, ◌↔◌, ℕ, Bool, IsTrue, List, [], ◌∷◌, length, get_or, refl, sym, ap, ◌∙◌, subst, arith}
 use Rattle.rel_lang.specs.Syntax.{Block, BiForm, Split, BiAt, BiBlock, BiEnd, BiThen, Align, Given}
 use Rattle.rel_lang.specs.Syntax as S
@@ -10,13 +10,6 @@ use Rattle.rel_lang.specs.declared.bundle.Proc as Q
 use Rattle.rel_lang.specs.declared.bundle.Judgement as J
 use Rattle.rel_linking.specs.Parts.{held, IsSplitForm, IsJudged, AreJudged}
 use Rattle.rel_linking.proofs.Views.{bicommand_is}
-
-pub three_items : {X : Type 0} (xs : List X) (d e f : X) → length xs ≡ 3 → xs ≡ get_or xs 0 d ∷ get_or xs 1 e ∷ get_or xs 2 f ∷ []
-three_items [] d e f h = absurd (omega arith)
-three_items (x ∷ []) d e f h = absurd (omega arith)
-three_items (x ∷ y ∷ []) d e f h = absurd (omega arith)
-three_items (x ∷ y ∷ z ∷ []) d e f h = refl
-three_items (x ∷ y ∷ z ∷ w ∷ xs) d e f h = absurd (omega arith)
 
 pub one_proc : {X : Type 0} (xs : List X) (d : X) → length xs ≡ 1 → xs ≡ get_or xs 0 d ∷ []
 one_proc [] d h = absurd (omega arith)
