@@ -21,9 +21,6 @@ use Rattle.rel_types.proofs.Lookups.{or_else, found_before, same_after}
 pub same_self : (sc : Scope) → SameLookups sc sc
 same_self sc x = refl
 
-pub same_back : (sc sd : Scope) → SameLookups sc sd → SameLookups sd sc
-same_back sc sd h x = sym (h x)
-
 pub same_then : (sc sd se : Scope) → SameLookups sc sd → SameLookups sd se → SameLookups sc se
 same_then sc sd se h k x = h x ∙ k x
 

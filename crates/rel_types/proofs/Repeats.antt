@@ -1,5 +1,5 @@
 -- Which names are among others, and which are declared again.
-use Rattle.std.proofs.Common.{◌≡◌, ℕ, ◌<◌, ◌+◌, Bool, true, false, ◌||◌, if◌then◌else◌, List, [], ◌∷◌, ◌++◌, map, take, get_or, length, Some, refl, sym, ap, ap₂, ◌∙◌, append_assoc, append-nil, subst}
+use Rattle.std.proofs.Common.{◌≡◌, ℕ, ◌<◌, ◌+◌, Bool, true, false, ◌||◌, if◌then◌else◌, List, [], ◌∷◌, ◌++◌, map, take, get_or, length, Some, refl, sym, ap, ap₂, ◌∙◌, append_assoc, subst}
 use Rattle.std.specs.Prelude.{bytes_eq, is_some}
 use Rattle.std.proofs.lemmas.Slice.Eq.{bytes_eq-Decides}
 use Rattle.std.proofs.lemmas.List.{take_more, map-append}
@@ -131,6 +131,3 @@ gone_one_more before first own own' repeated ds i d name was there h is e k l go
     subst (λ r. AreGoneOver before first own' r ds (i + 1))
     (sym (ap₂ (λ a b. repeated || (a || b)) (k ∙ ap (λ n. is_among n own) e) (l ∙ ap (λ n. is_among n before) e)))
     (gone_more before first own own' repeated ds i d h is gone (subst (λ n. SameNames own' (n ∷ own)) e more))
-
-pub repeats_behind : (s t : List Word) → SameNames s t → (xs : List Word) → repeats (s ++ []) xs ≡ repeats t xs
-repeats_behind s t h xs = ap (λ l. repeats l xs) (append-nil s) ∙ repeats_same s t h xs

@@ -1,24 +1,16 @@
 -- What the scopes of a setting give, and what is said of clauses, places and effects.
 use Rattle.std.proofs.Common.{◌≡◌, Bool, not, List, [], ◌∷◌, ◌++◌, refl, sym, ap, ap₂, subst, append_assoc}
-use Rattle.rel_lang.specs.Syntax.{Decl, Place, Effect, Global, Locations, Clause, RelClause}
-use Rattle.rel_lang.specs.State.{Tables, Owner, ByQuantifier, Scope}
-use Rattle.rel_lang.specs.Scope.{Setting, declared, result_variable, globals_of, parameters_of, own_variables, pre_scope, post_scope, body_scope}
+use Rattle.rel_lang.specs.Syntax.{Place, Effect, Global, Locations, Clause, RelClause}
+use Rattle.rel_lang.specs.State.{Tables, Scope}
+use Rattle.rel_lang.specs.Scope.{Setting, result_variable, globals_of, parameters_of, own_variables, pre_scope, post_scope, body_scope}
 use Rattle.rel_flaws.specs.Flaws.{Flaws, either, Pass, fault_at}
 use Rattle.rel_flaws.specs.Inference.{is_field}
 use Rattle.rel_flaws.specs.Code.{unknown_where}
 use Rattle.rel_types.specs.Items.{flaws_of_place, flaws_of_effect, flaws_of_all, clause_fault, rel_clause_fault}
 use Rattle.rel_types.specs.Lookups.{SameLookups}
 use Rattle.rel_types.proofs.Lookups.{same_after, in_same, formula_same, rel_same, region_same}
-use Rattle.rel_types.proofs.Declaring.{same_then, same_declared}
 
 -- ---- scopes
-
--- declared behind others
-pub next_declared : (after before base : Scope) (o : Owner) (is_assignable : Bool) (ds : List Decl) → SameLookups before base
-    → SameLookups after (before ++ declared ByQuantifier is_assignable ds) → SameLookups after (base ++ declared o is_assignable ds)
-next_declared after before base o b ds h k =
-    same_then after (before ++ declared ByQuantifier b ds) (base ++ declared o b ds) k
-    (same_after before (declared ByQuantifier b ds) base (declared o b ds) h (same_declared ByQuantifier o b ds))
 
 pub pre_same : (g : Setting) (globals own : Scope) → SameLookups globals (globals_of g) → SameLookups own (parameters_of g) → SameLookups (globals ++ own) (pre_scope g)
 pre_same g globals own h k = same_after globals own (globals_of g) (parameters_of g) h k
