@@ -107,10 +107,10 @@ not_both text k g h = g.other k (subst (λ b. IsStraight b k) (one_bundle text h
 -- a bundle has one first fault at most
 one_type_fault : (text : List ℕ) (e f : Fault) → IsIllTyped text e → IsIllTyped text f → e ≡ f
 one_type_fault text e f g h =
-    some_is e f (sym g.fault ∙ ap first_fault (one_bundle text h.bundle g.bundle h.read.stands g.read.stands) ∙ h.fault)
+    some_is e f (sym g.fault ∙ ap first_fault (one_bundle text g.bundle h.bundle g.read.stands h.read.stands) ∙ h.fault)
 
 faulty : (text : List ℕ) (f : Fault) (b : Bundle) → IsIllTyped text f → IsRead text b → first_fault b ≡ None → ⊥
-faulty text f b g read none = none_is (first_fault b) f none (ap first_fault (one_bundle text g.bundle b g.read.stands read.stands) ∙ g.fault)
+faulty text f b g read none = none_is (first_fault b) f none (ap first_fault (one_bundle text b g.bundle read.stands g.read.stands) ∙ g.fault)
 
 one_parts : (text : List ℕ) (k l : Parts) → IsBuilt text k → IsBuilt text l → k ≡ l
 one_parts text k l g h = same_parts h.bundle k l (subst (λ b. IsStraight b k) (one_bundle text g.bundle h.bundle g.read.stands h.read.stands) g.straight) h.straight

@@ -180,9 +180,9 @@ module _ (b : Bundle) (told : List ℕ → Told) (Failed : List ℕ → Type 0) 
   unfolding IsFound IsTypedAnswer
   cannot_be_judged none is = inl (none, is)
 
-  pub bundle_typed : first_fault b ≡ None → IsTypedAnswer b told Failed proof a → IsBundleAnswer b told Failed proof a
+  pub bundle_typed : (c : Bundle) → c ≡ b → first_fault b ≡ None → IsTypedAnswer c told Failed proof a → IsBundleAnswer b told Failed proof a
   unfolding IsBundleAnswer
-  bundle_typed faultless h = inr (faultless, h)
+  bundle_typed c same faultless h = inr (faultless, subst (λ x. IsTypedAnswer x told Failed proof a) same h)
 
   pub bundle_faulty : (f : Fault) × (first_fault b ≡ Some f) × (a ≡ answer_of (answer (ill_typed f))) → IsBundleAnswer b told Failed proof a
   unfolding IsBundleAnswer
