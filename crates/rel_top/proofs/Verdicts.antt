@@ -34,7 +34,7 @@ use Rattle.rel_top.specs.declared.check.Answer.{Answer}
 use Rattle.rel_top.specs.Ending.{ReadFailed, unread, answer}
 use Rattle.rel_top.specs.Judged.{OfParts, IsObligation, IsFound, IsStepsAnswer, IsProofAnswer, IsJudgedAnswer, IsTypedAnswer, IsBundleAnswer, IsTextAnswer, IsCheckAnswer, IsPrintAnswer, IsShowAnswer, answer_of}
 use Rattle.rel_top.specs.ProofFile.{proof_of, json_of, steps_of, derivation_of}
-use Rattle.rel_top.specs.Report.{line, text_fault_line, type_fault_line, proof_line, bad_step_line, open_nodes_line, item_line, yes_line}
+use Rattle.rel_top.specs.Report.{line, text_fault_line, proof_line, bad_step_line, open_nodes_line, item_line, yes_line}
 use Rattle.rel_top.specs.declared.status.Status.TheVariants.{Yes, Refused}
 use Rattle.rel_top.specs.Verdict.{too_large, bad_text, Outcome, no_proof, bad_step, open_nodes, accepted, HasOutcome, refused, ill_typed, not_built, judged, printed, MayHold}
 use Rattle.rel_top.proofs.FewSteps.{few_steps}
@@ -100,9 +100,6 @@ module _ {E : Type 0} (r : Result Answer E) (text : List ℕ) (one : IfOk r (λ 
 
   pub faulty_answer : (f : TextFault) → f ≢ texts.Memory → text ≡ text_fault_line f → IfOk r (λ a. (f ≢ texts.Memory) × (a ≡ answer_of (answer (refused (bad_text f)))))
   faulty_answer f some same = refusing (λ a. (f ≢ texts.Memory) × (a ≡ answer_of (answer (refused (bad_text f))))) (λ a is. (some, is ∙ ap (λ t. record { status = Refused; lines = t ∷ [] }) same))
-
-  pub ill_typed_answer : (f : Fault) → text ≡ type_fault_line f → IfOk r (λ a. a ≡ answer_of (answer (ill_typed f)))
-  ill_typed_answer f same = refusing (λ a. a ≡ answer_of (answer (ill_typed f))) (λ a is. is ∙ ap (λ t. record { status = Refused; lines = t ∷ [] }) same)
 
 -- ---- a derivation
 

@@ -1,6 +1,7 @@
 -- The lines that are printed.
 use Rattle.std.specs.Prelude.{ℕ, List, [], ◌∷◌, ◌++◌, codes}
 use Rattle.std.specs.Fmt.{decimal}
+use Rattle.rel_lang.specs.Typed.{item_name}
 use Rattle.rel_lang.specs.Syntax.{Word, Item, OfClass, OfInterface, OfModule, OfUnit, OfClient, OfJudgement, OfPair}
 use Rattle.rel_lang.specs.declared.fault.LexKind.TheVariants.{BadChar, WideLiteral}
 use Rattle.rel_flaws.specs.Flaws.{Kind, Twice, Unknown, Missing, NoMain, NotVisible, WrongArity, Target, OldHere, NotCode, WrongType, Fault}
@@ -69,15 +70,6 @@ kind_of (OfClient c) = codes "client"
 kind_of (OfJudgement j) = codes "judge"
 kind_of (OfPair p) = codes "pair"
 
-abbrev pub name_of : Item → Word
-name_of (OfClass c) = c.name
-name_of (OfInterface i) = i.name
-name_of (OfModule m) = m.name
-name_of (OfUnit u) = u.name
-name_of (OfClient c) = c.name
-name_of (OfJudgement j) = j.name
-name_of (OfPair p) = p.name
-
 -- the byte where it begins
 abbrev pub byte_of : Item → ℕ
 byte_of (OfClass c) = c.at
@@ -90,7 +82,7 @@ byte_of (OfPair p) = p.at
 
 -- an obligation that stands where this item begins
 abbrev pub place_of : Item → List ℕ
-place_of i = codes " in " ++ (kind_of i ++ (codes " " ++ (name_of i ++ (codes " at " ++ line (decimal (byte_of i))))))
+place_of i = codes " in " ++ (kind_of i ++ (codes " " ++ (item_name i ++ (codes " at " ++ line (decimal (byte_of i))))))
 
 abbrev pub bad_step_line : Item → ℕ → List ℕ
 bad_step_line i step = codes "refused BadStep obligation 0 step " ++ (decimal step ++ place_of i)
@@ -100,7 +92,7 @@ open_nodes_line i nodes = codes "refused OpenNodes " ++ (decimal nodes ++ (codes
 
 -- an item has so many obligations
 abbrev pub item_line : Item → ℕ → List ℕ
-item_line i count = kind_of i ++ (codes " " ++ (name_of i ++ (codes ": " ++ (decimal count ++ line (codes " obligations")))))
+item_line i count = kind_of i ++ (codes " " ++ (item_name i ++ (codes ": " ++ (decimal count ++ line (codes " obligations")))))
 
 abbrev pub yes_line : ℕ → ℕ → List ℕ
 yes_line items obligations = codes "yes: " ++ (decimal items ++ (codes " items, " ++ (decimal obligations ++ line (codes " obligations"))))

@@ -4,12 +4,13 @@ ghost use Rattle.std.specs.Prelude.{◌≡◌, ◌≢◌, IfOk};
 ghost use Rattle.rel_decls.specs.declared.fault.TextFault.TheVariants as faults;
 ghost use Rattle.rel_flaws.specs.View.{kind_of as type_kind_of};
 ghost use Rattle.rel_lang.specs.View.{item_of};
-ghost use Rattle.rel_top.specs.Report.{usage_line, fault_line, large_line, refused_line, text_fault_line, type_fault_line, bundle_line, proof_line, kind_of, name_of as item_name, byte_of, bad_step_line, open_nodes_line, item_line, yes_line};
+ghost use Rattle.rel_top.specs.Report.{usage_line, fault_line, large_line, refused_line, text_fault_line, type_fault_line, bundle_line, proof_line, kind_of, byte_of, bad_step_line, open_nodes_line, item_line, yes_line};
 
 use rel_decls::TextFault;
 use rel_lang::bundle::Item;
 use rel_lang::fault::{LexKind, TypeKind};
 use rel_list::{Memory, Name};
+use rel_types::name_of;
 use std::alloc::Global;
 
 const USAGE: &str = "usage: whyrel check BUNDLE PROOF | prove BUNDLE OUT BUDGET | \
@@ -106,20 +107,6 @@ fn kind(item: &Item) -> &'static str
     }
 }
 
-fn name(item: &Item) -> &str
-    ensures { result.now ≡ item_name (item_of item.now) }
-{
-    match item {
-        Item::Class(class) => class.name.as_str(),
-        Item::Interface(interface) => interface.name.as_str(),
-        Item::Module(module) => module.name.as_str(),
-        Item::UnitItem(unit) => unit.name.as_str(),
-        Item::Client(client) => client.name.as_str(),
-        Item::Judge(judgement) => judgement.name.as_str(),
-        Item::Pair(pair) => pair.name.as_str(),
-    }
-}
-
 /// The byte where the item begins.
 fn place(item: &Item) -> u32
     ensures { result ≡ byte_of (item_of item.now) }
@@ -139,7 +126,7 @@ fn place(item: &Item) -> u32
 pub fn bad_step(alloc: Global, item: &Item, step: u32) -> Result<Name, Memory>
     ensures { IfOk result (λ text. text ≡ bad_step_line (item_of item.now) step) }
 {
-    let (kind, name, at) = (kind(item), name(item), place(item));
+    let (kind, name, at) = (kind(item), name_of(item), place(item));
     let text = format!(in alloc;
         "refused BadStep obligation 0 step {step} in {kind} {name} at {at}\n"
     )?;
@@ -150,7 +137,7 @@ pub fn bad_step(alloc: Global, item: &Item, step: u32) -> Result<Name, Memory>
 pub fn open_nodes(alloc: Global, item: &Item, nodes: u64) -> Result<Name, Memory>
     ensures { IfOk result (λ text. text ≡ open_nodes_line (item_of item.now) nodes) }
 {
-    let (kind, name, at) = (kind(item), name(item), place(item));
+    let (kind, name, at) = (kind(item), name_of(item), place(item));
     let text = format!(in alloc;
         "refused OpenNodes {nodes} obligation 0 in {kind} {name} at {at}\n"
     )?;
@@ -161,7 +148,7 @@ pub fn open_nodes(alloc: Global, item: &Item, nodes: u64) -> Result<Name, Memory
 pub fn item(alloc: Global, item: &Item, obligations: u32) -> Result<Name, Memory>
     ensures { IfOk result (λ text. text ≡ item_line (item_of item.now) obligations) }
 {
-    let (kind, name) = (kind(item), name(item));
+    let (kind, name) = (kind(item), name_of(item));
     let text = format!(in alloc; "{kind} {name}: {obligations} obligations\n")?;
     Ok(Name { text })
 }
