@@ -1,4 +1,6 @@
-pub mod Linear
-pub mod Forms
 pub mod Rules
+pub mod Pile
+pub mod Answers
 pub mod Stack
+pub mod Laws
+pub mod Taken

@@ -1,40 +1,45 @@
 -- The good steps, and the lists of steps that are accepted for a sequent.
-use Rattle.std.specs.Prelude.{◌≡◌, ℕ, List, [], ◌∷◌, ◌++◌, map, slice_get, Some}
-use Rattle.rel_logic.specs.Syntax.{int_sort, Trm, Fml, eq, lt, no, Sqt, Nod}
-use Rattle.rel_derive.specs.declared.step.Step.{Step}
-use Rattle.rel_derive.specs.declared.step.Step.TheVariants.{Neint, Farkas}
-use Rattle.rel_derive.specs.Linear.{term_sort, IsGoodSum}
+use Rattle.std.specs.Prelude.{◌≡◌, ◌<◌, ◌^◌, List, [], ◌∷◌, ◌++◌, map, length}
+use Rattle.std.specs.List.{AllByRecursion}
+use Rattle.rel_logic.specs.Syntax.{no, Sqt, Nod}
+use Rattle.rules_table.specs.Nodes.{Stp, Addition, child, Outcome, not_mine, kids}
+use Rattle.rules_table.specs.Table.{propositional}
+use Rattle.rules_eq.specs.Table.{equality}
 
--- formula i says that two terms of sort Int differ, and one is below the other in either child
-pub record SplitsAt (n : Nod) (i : ℕ) (children : List (List Fml)) : Type 0 where
-  pub left : Trm
-  pub right : Trm
-  pub formula : slice_get n.forms i ≡ Some (no (eq left right))
-  pub left_int : term_sort n.sorts left ≡ Some int_sort
-  pub right_int : term_sort n.sorts right ≡ Some int_sort
-  pub added : children ≡ (lt left right ∷ []) ∷ (lt right left ∷ []) ∷ []
+-- the first, unless the row is another theory's
+abbrev pub otherwise : Outcome → Outcome → Outcome
+otherwise not_mine o = o
+otherwise o p = o
 
--- the step is good at the node, where each child adds its formulas to the node
-abbrev pub GoodStep : Nod → Step → List (List Fml) → Type 0
-GoodStep n (Neint i) children = SplitsAt n i children
-GoodStep n (Farkas pairs) children = IsGoodSum n pairs × (children ≡ [])
+-- what a step comes to at a node, by the first theory that has its row
+abbrev pub outcome_of_all : Nod → Stp → Outcome
+outcome_of_all n s = otherwise (propositional n s) (equality n s)
 
-abbrev pub child : Nod → List Fml → Nod
-child n added = record { sorts = n.sorts; forms = n.forms ++ added }
+-- the step is good at the node, with these children
+abbrev pub GoodStep : Nod → Stp → List Nod → Type 0
+GoodStep n s children = (added : List Addition) × (outcome_of_all n s ≡ kids added) × (children ≡ map (child n) added)
 
 -- the top of a stack comes first; a good step puts the children in the place of the top node
-abbrev pub Moves : List Nod → Step → List Nod → Type 0
-Moves [] step after = ⊥
-Moves (n ∷ below) step after = (children : List (List Fml)) × GoodStep n step children × (after ≡ map (child n) children ++ below)
+abbrev pub Moves : List Nod → Stp → List Nod → Type 0
+Moves [] s after = ⊥
+Moves (n ∷ below) s after = (children : List Nod) × GoodStep n s children × (after ≡ children ++ below)
 
-abbrev pub Runs : List Nod → List Step → List Nod → Type 0
+-- every number in the node's lists has room
+abbrev pub HasRoom : Nod → Type 0
+HasRoom n = (length n.sorts < 2 ^ 31) × (length n.forms < 2 ^ 31)
+
+-- each step is good at the top of the stack, and leaves nodes that have room
+abbrev pub Runs : List Nod → List Stp → List Nod → Type 0
 Runs stack [] after = stack ≡ after
-Runs stack (s ∷ steps) after = (next : List Nod) × Moves stack s next × Runs next steps after
+Runs stack (s ∷ steps) after = (next : List Nod) × Moves stack s next × AllByRecursion HasRoom next × Runs next steps after
 
 -- the node of a sequent holds the hypotheses and the goal's negation
+abbrev pub first_node : Sqt → Nod
+first_node q = record { sorts = q.sorts; forms = q.hyps ++ no q.goal ∷ [] }
+
 abbrev pub first_stack : Sqt → List Nod
-first_stack q = record { sorts = q.sorts; forms = q.hyps ++ no q.goal ∷ [] } ∷ []
+first_stack q = first_node q ∷ []
 
 -- the steps leave no node open
-abbrev pub IsAccepted : Sqt → List Step → Type 0
+abbrev pub IsAccepted : Sqt → List Stp → Type 0
 IsAccepted q steps = Runs (first_stack q) steps []

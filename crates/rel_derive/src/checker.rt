@@ -1,17 +1,19 @@
 //! Checks a derivation step by step, on a stack of open nodes.
-ghost use Rattle.std.specs.Prelude.{◌≡◌, ◌≢◌, ◌↔◌, ◌<◌, ◌^◌, [], ◌∷◌, length, IfOk, IsTrue, MatchOption};
-ghost use Rattle.rel_logic.specs.Syntax.{Trm, eq, lt, no};
-ghost use Rattle.rel_logic.specs.View.{trm_of, fml_of, sequent_of, node_of};
-ghost use Rattle.rel_derive.specs.declared.checker.Verdict.{Verdict};
-ghost use Rattle.rel_derive.specs.Rules.{child, first_stack, IsAccepted};
-ghost use Rattle.rel_derive.specs.Stack.{stack_of, DiffersAt, IsStepAnswer, IsVerdict};
+ghost use Rattle.std.specs.Prelude.{◌≡◌, ◌↔◌, [], length, map, IfOk, IsTrue};
+ghost use Rattle.rel_logic.specs.View.{sort_of, sequent_of, node_of};
+ghost use Rattle.rules_table.specs.Nodes.{IsSound};
+ghost use Rattle.rules_table.specs.View.{step_of};
+ghost use Rattle.rel_derive.specs.Rules.{first_node, first_stack};
+ghost use Rattle.rel_derive.specs.Taken.{AreSortedOver};
+ghost use Rattle.rel_derive.specs.Pile.{IsSoundPile, IsSoundPile-prop};
 
-use crate::linear::{is_good_sum, is_int};
-use crate::step::Step;
-use rel_list::{Boxed, Copies, List, Memory};
+use crate::pile::{Pile, ROOM};
+use rel_list::{Boxed, List, Memory};
 use rel_logic::fol::Fol;
 use rel_logic::sequent::{Node, Sequent};
-use rel_logic::term::Term;
+use rel_logic::sorting::well_sorted;
+use rel_logic::term::Sort;
+use rules_table::step::Step;
 use std::alloc::Global;
 
 /// Why a step was not taken.
@@ -21,193 +23,77 @@ pub enum StepFault {
     Memory,
 }
 
-/// The open nodes of a derivation, the one to work on last.
+/// The open nodes of a derivation.
 #[derive(Drop)]
 pub struct Checker {
-    nodes: Vec<Node>,
+    pile: Pile,
+    ghost kept: { IsSoundPile pile } by { IsSoundPile-prop pile },
 }
 
-/// What a list of steps comes to: `BadStep` has the first bad step's number.
-#[derive(Clone, Copy, Debug, PartialEq, Eq, Drop)]
-pub enum Verdict {
-    Accepted,
-    BadStep(u32),
-    OpenNodes(u64),
-}
-
-fn first_node(alloc: Global, sequent: &Sequent) -> Result<Node, Memory>
-    ensures { IfOk result (λ n. node_of n ∷ [] ≡ first_stack (sequent_of sequent.now)) }
+/// The hypotheses and the goal's negation.
+fn first_node(alloc: Global, sequent: Sequent) -> Result<Node, Memory>
+    ensures { IfOk result (λ n. node_of n ≡ first_node (sequent_of sequent)) }
 {
-    let sorts = sequent.sorts.copied()?;
-    let mut forms = sequent.hyps.copied()?;
-    let goal = Boxed::new(alloc, sequent.goal.copy()?)?;
-    forms.push(Fol::Not(goal))?;
+    let Sequent { sorts, hyps, goal } = sequent;
+    let mut forms = hyps;
+    forms.push(Fol::Not(Boxed::new(alloc, goal)?))?;
     Ok(Node { sorts, forms })
 }
 
-fn with_form(node: &Node, form: Fol) -> Result<Node, Memory>
-    ensures { IfOk result (λ n. node_of n ≡ child (node_of node.now) (fml_of form ∷ [])) }
+fn are_well_sorted(forms: &List<Fol>, sorts: &[Sort]) -> bool
+    ensures { IsTrue result ↔ AreSortedOver (map sort_of sorts.now) forms.now }
 {
-    let sorts = node.sorts.copied()?;
-    let mut forms = node.forms.copied()?;
-    forms.push(form)?;
-    Ok(Node { sorts, forms })
+    for i in 0..forms.len() {
+        if !well_sorted(forms.at(i), sorts) {
+            return false;
+        }
+    }
+    true
 }
 
-/// The sides of an equation.
-fn sides(f: &Fol) -> Option<(&Term, &Term)>
-    ensures { let formula = fml_of f.now in
-        MatchOption result ((t u : Trm) → formula ≢ eq t u)
-        (λ p. formula ≡ eq (trm_of p.0.now) (trm_of p.1.now)) }
+/// Whether a checker can take the sequent: its formulas are closed and well sorted over its variables, and
+/// there are fewer than 2^31 variables and formulas.
+pub fn can_be_checked(sequent: &Sequent) -> bool
+    ensures { IsTrue result ↔ IsSound (first_node (sequent_of sequent.now)) }
 {
-    match f {
-        Fol::Eq(t, u) => Some((t, u)),
-        _ => None,
+    let sorts = sequent.sorts.as_slice();
+    if sequent.sorts.len() >= ROOM || sequent.hyps.len() >= ROOM - 1 {
+        return false;
     }
-}
-
-/// The two terms of a formula that says that they differ.
-fn unequal_terms(f: &Fol) -> Option<(&Term, &Term)>
-    ensures { let formula = fml_of f.now in
-        MatchOption result ((t u : Trm) → formula ≢ no (eq t u))
-        (λ p. formula ≡ no (eq (trm_of p.0.now) (trm_of p.1.now))) }
-{
-    match f {
-        Fol::Not(g) => sides(g.get()),
-        _ => None,
-    }
-}
-
-/// The two terms of sort Int of which formula `i` says that they differ.
-fn unequal_ints(node: &Node, i: u32) -> Option<(&Term, &Term)>
-    ensures { let n = node_of node.now in
-        MatchOption result ((t u : Trm) → ¬ (DiffersAt n i t u))
-        (λ p. DiffersAt n i (trm_of p.0.now) (trm_of p.1.now)) }
-{
-    let i = i as usize;
-    if i >= node.forms.len() {
-        return None;
-    }
-    let (t, u) = unequal_terms(node.forms.at(i))?;
-    if is_int(&node.sorts, t) && is_int(&node.sorts, u) {
-        Some((t, u))
-    } else {
-        None
-    }
-}
-
-/// The node with `t` below `u`, and the node with `u` below `t`.
-fn both_orders(node: &Node, t: &Term, u: &Term) -> Result<(Node, Node), Memory>
-    ensures { let n = node_of node.now in
-        let a = trm_of t.now in
-        let b = trm_of u.now in
-        IfOk result (λ p. (node_of p.0 ≡ child n (lt a b ∷ [])) × (node_of p.1 ≡ child n (lt b a ∷ []))) }
-{
-    let first = with_form(node, Fol::Lt(t.copy()?, u.copy()?))?;
-    let second = with_form(node, Fol::Lt(u.copy()?, t.copy()?))?;
-    Ok((first, second))
+    are_well_sorted(&sequent.hyps, sorts) && well_sorted(&sequent.goal, sorts)
 }
 
 impl Checker {
-    pub fn new(alloc: Global, sequent: &Sequent) -> Result<Checker, Memory>
-        ensures { IfOk result (λ c. stack_of c ≡ first_stack (sequent_of sequent.now)) }
+    ghost use Rattle.rel_derive.specs.Answers.{IsStepAnswer};
+    ghost use Rattle.rel_derive.specs.Stack.{stack_of};
+
+    /// The checker of the sequent's one node.
+    pub fn new(alloc: Global, sequent: Sequent) -> Result<Checker, Memory>
+        requires { IsSound (first_node (sequent_of sequent)) }
+        ensures { IfOk result (λ c. stack_of c ≡ first_stack (sequent_of sequent)) }
     {
-        let mut nodes = Vec::new(alloc);
-        nodes.push(first_node(alloc, sequent)?)?;
-        Ok(Checker { nodes })
+        let node = first_node(alloc, sequent)?;
+        let pile = Pile::new(alloc, node)?;
+        Ok(Checker { pile })
     }
 
     /// How many nodes are open.
     pub fn pending(&self) -> usize
         ensures { result ≡ length (stack_of self.now) }
     {
-        self.nodes.len()
+        self.pile.len()
     }
 
     pub fn is_done(&self) -> bool
         ensures { IsTrue result ↔ (stack_of self.now ≡ []) }
     {
-        self.nodes.is_empty()
-    }
-
-    fn close(&mut self, alloc: Global, pairs: &List<(u32, i128)>) -> Result<(), StepFault>
-        ensures { IsStepAnswer (stack_of self.old) (Step.Farkas pairs.now) result (stack_of self.new) }
-    {
-        let Some(top) = self.nodes.last() else {
-            return Err(StepFault::Bad);
-        };
-        let Ok(is_good) = is_good_sum(alloc, top, pairs) else {
-            return Err(StepFault::Memory);
-        };
-        if !is_good {
-            return Err(StepFault::Bad);
-        }
-        let below = self.nodes.len() - 1;
-        self.nodes.truncate(below);
-        Ok(())
-    }
-
-    fn split(&mut self, i: u32) -> Result<(), StepFault>
-        ensures { IsStepAnswer (stack_of self.old) (Step.Neint i) result (stack_of self.new) }
-    {
-        let Some(top) = self.nodes.last() else {
-            return Err(StepFault::Bad);
-        };
-        let Some((t, u)) = unequal_ints(top, i) else {
-            return Err(StepFault::Bad);
-        };
-        let Ok((first, second)) = both_orders(top, t, u) else {
-            return Err(StepFault::Memory);
-        };
-        let top = self.nodes.len() - 1;
-        let Ok(()) = self.nodes.push(first) else {
-            return Err(StepFault::Memory);
-        };
-        self.nodes[top] = second;
-        Ok(())
+        self.pile.len() == 0
     }
 
     /// Puts the children of the top node in its place. After an `Err` the stack is as before.
     pub fn step(&mut self, step: &Step) -> Result<(), StepFault>
-        ensures { IsStepAnswer (stack_of self.old) step.now result (stack_of self.new) }
+        ensures { IsStepAnswer (stack_of self.old) (step_of step.now) result (stack_of self.new) }
     {
-        let alloc = *self.nodes.allocator();
-        match step {
-            Step::Neint(i) => self.split(*i),
-            Step::Farkas(pairs) => self.close(alloc, pairs),
-        }
+        self.pile.step(step)
     }
-}
-
-fn verdict_of(alloc: Global, sequent: &Sequent, steps: &List<Step>) -> Result<Verdict, Memory>
-    requires { length steps.now < 2 ^ 32 }
-    ensures { IfOk result (λ v. IsVerdict (sequent_of sequent.now) steps.now v) }
-{
-    let mut checker = Checker::new(alloc, sequent)?;
-    let items = steps.as_slice();
-    for (number, step) in items.iter().enumerate() {
-        match checker.step(step) {
-            Ok(()) => {}
-            Err(StepFault::Bad) => return Ok(Verdict::BadStep(number as u32)),
-            Err(StepFault::Memory) => return Err(Memory),
-        }
-    }
-    if checker.is_done() {
-        Ok(Verdict::Accepted)
-    } else {
-        Ok(Verdict::OpenNodes(checker.pending() as u64))
-    }
-}
-
-/// What the steps come to, from the node of the sequent. Where they are accepted, it is valid.
-pub fn accepts(alloc: Global, sequent: &Sequent, steps: &List<Step>) -> Result<Verdict, Memory>
-    requires { length steps.now < 2 ^ 32 }
-    ensures verdict { IfOk result (λ v. IsVerdict (sequent_of sequent.now) steps.now v) }
-    ensures exact { let q = sequent_of sequent.now in
-        IfOk result (λ v. (v ≡ Verdict.Accepted) ↔ IsAccepted q steps.now) }
-    // No other verdict fits.
-    ensures only { let q = sequent_of sequent.now in
-        IfOk result (λ v. (w : Verdict) → IsVerdict q steps.now w → w ≡ v) }
-{
-    verdict_of(alloc, sequent, steps)
 }

@@ -1,7 +1,7 @@
-//! Derivations: linear forms over the integers, the good steps, and a checker that takes them on a stack of
-//! open nodes.
+//! Checks derivations step by step, on a stack of open nodes.
 #![tactic(auto)]
 
 pub mod checker;
-mod linear;
-pub mod step;
+pub mod laws;
+mod pile;
+mod theories;

@@ -6,8 +6,8 @@ use Rattle.std.specs.Prelude.{codes}
 use Rattle.rel_lang.specs.Syntax.{At, Form, Skip, Assign, Load, Store, New, Call, If, While, Block, End, Then, Proc, UnitItem}
 use Rattle.rel_lang.specs.Text.{Mark, word, ended, show_decl, element, repeated, show_command, show_commands, show_globals, show_locals, show_spec, show_body, show_head, show_proc, show_unit, show_item}
 use Rattle.rel_lang.specs.Refusal.{limits, IsWithin, Fits}
-use Rattle.rel_lang.specs.Typed.{AreDistinct, IsTyped}
-use Rattle.rel_lang.specs.Scope.{result_name}
+use Rattle.rel_lang.specs.State.{tables_of}
+use Rattle.rel_lang.specs.Typed.{IsTyped}
 use Rattle.rel_lang.specs.declared.bundle.UnitItem as U
 use Rattle.rel_lang.specs.declared.bundle.Judgement as J
 use Rattle.rel_lang.specs.declared.bundle.Proc as Q
@@ -16,11 +16,11 @@ use Rattle.rel_lang.specs.declared.bundle.Item.TheVariants as IV
 use Rattle.rel_lang.specs.View.{decl_of, proc_of, unit_of, item_of}
 use Rattle.rel_logic.specs.View.{sequent_of}
 use Rattle.rel_logic.specs.declared.sequent.Sequent.{Sequent}
-use Rattle.rel_linking.specs.Obligation.{block_len, obligation_of}
-use Rattle.rel_linking.specs.Parts.{AreJudged, HasFew, names_of, bundle_with}
+use Rattle.rel_encode.specs.Numbers.{Numbers, numbered}
+use Rattle.rel_linking.specs.Obligation.{no_numbers, block_len, obligation_of}
+use Rattle.rel_linking.specs.Parts.{AreJudged, HasFew}
 use Rattle.rel_linking.specs.Scope.{parts_of, IsAnswer, IsAnswerFor}
 use Rattle.rel_linking.proofs.Forms.{items_of, made, straight, made_of, judged}
-use Rattle.rel_linking.proofs.FormsUnit.{decl_names}
 use Rattle.rel_linking.proofs.Lengths.{block_len_is}
 use Rattle.rel_linking.proofs.TrueBundles.{enough}
 
@@ -135,9 +135,6 @@ for_three l r j p q s k el er e =
     let right : q ≡ k.right_proc = er ∙ ap (λ ps. get_or ps 0 q) k.right in
     (k, e ∙ (λ i. obligation_of (parts_of l (left i) r (right i) j)))
 
--- the names of the globals of the two units
-pub left_names : (l r : U.UnitItem) (j : J.Judgement) → IsTyped (bundle_with l r j) → AreDistinct (result_name ∷ names_of l.globals)
-left_names l r j t = subst (λ xs. AreDistinct (result_name ∷ xs)) (decl_names l.globals) t.items.0.names
-
-pub right_names : (l r : U.UnitItem) (j : J.Judgement) → IsTyped (bundle_with l r j) → AreDistinct (result_name ∷ names_of r.globals)
-right_names l r j t = subst (λ xs. AreDistinct (result_name ∷ xs)) (decl_names r.globals) t.items.1.0.names
+-- their bundle has no classes
+pub none_numbered : (xs : List I.Item) (l r : U.UnitItem) (j : J.Judgement) (n : Numbers) → xs ≡ made l r j → n ≡ numbered (tables_of (items_of xs)) → n ≡ no_numbers
+none_numbered xs l r j n e h = h ∙ ap (λ ys. numbered (tables_of (items_of ys))) e

@@ -13,7 +13,7 @@ use Rattle.rel_lang.specs.declared.bundle.Item.TheVariants as IV
 use Rattle.rel_lang.specs.View.{proc_of, unit_of, judgement_of, item_of}
 use Rattle.rel_linking.specs.Form as F
 use Rattle.rel_linking.specs.Form.{HasParts, IsStraight}
-use Rattle.rel_linking.specs.Parts.{Held, IsJudged, AreJudged, parts_of_held, bundle_with}
+use Rattle.rel_linking.specs.Parts.{Held, IsJudged, AreJudged, parts_of_held}
 use Rattle.rel_linking.proofs.FormsScope.{some_map}
 use Rattle.rel_linking.proofs.FormsUnit.{plain_unit, is_plain}
 
@@ -80,7 +80,7 @@ module _ (l r : UnitItem) (j : Judgement) (p q : Proc) (typed : IsTyped (three l
 
 module _ (h : Held) where
   abbrev all : Bundle
-  all = bundle_with h.left h.right h.judgement
+  all = three (unit_of h.left) (unit_of h.right) (judgement_of h.judgement)
 
   parts_there : IsTyped all → h.left.procs ≡ h.left_proc ∷ [] → h.right.procs ≡ h.right_proc ∷ [] → IsJudged h → HasParts all (parts_of_held h)
   parts_there t left right k =

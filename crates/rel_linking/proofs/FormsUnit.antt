@@ -12,7 +12,7 @@ use Rattle.rel_lang.specs.declared.bundle.Proc as Q
 use Rattle.rel_lang.specs.declared.bundle.UnitItem as U
 use Rattle.rel_lang.specs.View.{decl_of, effect_of, command_of, block_of, proc_of, unit_of}
 use Rattle.rel_linking.specs.Form.{IsGlobal, AssignsListed, IsPlainUnit}
-use Rattle.rel_linking.specs.Parts.{names_of, Names, Lists, IsInt, IsOfGlobal, IsPlainCommand, IsPlainIn, IsPlain}
+use Rattle.rel_linking.specs.Parts.{Names, Lists, IsInt, IsOfGlobal, IsPlainCommand, IsPlainIn, IsPlain}
 use Rattle.rel_linking.proofs.FormsScope.{AreInts}
 
 -- ---- scopes
@@ -27,10 +27,6 @@ pub body_is : (u : UnitItem) (p : Proc) → p.params ≡ [] → p.body.locals �
 body_is u p e f =
     ap (λ sc. sc ++ (declared ByCall true p.body.locals ++ result_variable (Some p.result))) (pre_is u p e)
     ∙ ap (λ ds. unit_globals u ++ (declared ByCall true ds ++ result_variable (Some p.result))) f
-
-pub decl_names : (ds : List D.Decl) → map (λ d. d.name) (map decl_of ds) ≡ names_of ds
-decl_names [] = refl
-decl_names (d ∷ ds) = ap (λ xs. d.name ∷ xs) (decl_names ds)
 
 pub ints_append : (xs ys : Scope) → AreInts xs → AreInts ys → AreInts (xs ++ ys)
 ints_append [] ys a b = b

@@ -59,6 +59,16 @@ not_the_calls (ByClient a) x y h = refl
 not_the_calls ByCall x y h = absurd (h refl)
 not_the_calls ByQuantifier x y h = refl
 
+-- ---- a write leaves the heap and the allocated references alone
+
+pub write_alloc : (o : Option Variable) (v : Value) (s : State) → (write_variable o v s).alloc ≡ s.alloc
+write_alloc None v s = refl
+write_alloc (Some x) v s = refl
+
+pub write_heap : (o : Option Variable) (v : Value) (s : State) → (write_variable o v s).heap ≡ s.heap
+write_heap None v s = refl
+write_heap (Some x) v s = refl
+
 -- ---- the end of a straight run
 
 abbrev pub final : Tables → Scope → Block → State → State
@@ -77,24 +87,16 @@ module _ (writes : List Effect) where
   run_end p zero c b s k l = steps_end p (λ _ _ _ _. Out) c b s k l
   run_end p (suc n) c b s k l = steps_end p (run_of p n) c b s k l
 
-  -- ---- writes leave the heap and the allocated references alone
+  -- ---- so does a run
 
   pub final_alloc : (tables : Tables) (sc : Scope) (b : Block) (s : State) → AssignsListed writes b → (final tables sc b s).alloc ≡ s.alloc
   final_alloc tables sc End s l = refl
   final_alloc tables sc (Then (At at (Assign x e)) cs) s l = final_alloc tables sc cs _ l.2 ∙ write_alloc (find_variable x sc) _ s
-    where
-      write_alloc : (o : Option Variable) (v : Value) (s : State) → (write_variable o v s).alloc ≡ s.alloc
-      write_alloc None v s = refl
-      write_alloc (Some x) v s = refl
   final_alloc tables sc (Then d cs) s l = absurd l
 
   pub final_heap : (tables : Tables) (sc : Scope) (b : Block) (s : State) → AssignsListed writes b → (final tables sc b s).heap ≡ s.heap
   final_heap tables sc End s l = refl
   final_heap tables sc (Then (At at (Assign x e)) cs) s l = final_heap tables sc cs _ l.2 ∙ write_heap (find_variable x sc) _ s
-    where
-      write_heap : (o : Option Variable) (v : Value) (s : State) → (write_variable o v s).heap ≡ s.heap
-      write_heap None v s = refl
-      write_heap (Some x) v s = refl
   final_heap tables sc (Then d cs) s l = absurd l
 
 pub defaults_alloc : (sc : Scope) (s : State) → (with_defaults sc s).alloc ≡ s.alloc

@@ -1,15 +1,15 @@
 -- A straight bundle whose obligation is valid is true.
-use Rattle.std.proofs.Common.{◌≡◌, if◌then◌else◌, inl, IsSomeAnd, List, [], ◌∷◌, map, Option, Some, None, sym, ap, subst, ◌∙◌}
+use Rattle.std.proofs.Common.{◌≡◌, false, true, if◌then◌else◌, inl, IsSomeAnd, List, [], ◌∷◌, map, Option, Some, None, sym, ap, subst, ◌∙◌}
 use Rattle.std.specs.List.{AllByRecursion}
 use Rattle.std.specs.Option.{option_map, option_and_then}
 use Rattle.rel_lang.specs.Syntax.{Word, Proc, UnitItem, Item, OfUnit, OfJudgement, Bundle}
-use Rattle.rel_lang.specs.State.{Tables, tables_of, find_named}
-use Rattle.rel_lang.specs.Scope.{unit_setting, body_scope}
+use Rattle.rel_lang.specs.State.{Tables, tables_of, class_items, fields_of, find_named}
+use Rattle.rel_lang.specs.Scope.{unit_setting, pre_scope, post_scope}
 use Rattle.rel_lang.specs.Lookup.{Subject, units_of, find_proc, subject_of}
 use Rattle.rel_lang.specs.Run.{unit_program}
 use Rattle.rel_lang.specs.Meets.{Meets, unit_contract}
-use Rattle.rel_lang.specs.Judgement.{IsTrueOf, IsTrueJudgement}
-use Rattle.rel_lang.specs.Typed.{AreDistinct, names_of, IsTypedProc, IsTypedUnit, IsTypedItem, item_name, signature_of_proc}
+use Rattle.rel_lang.specs.Judgement.{setting_of, IsTrueOf, IsTrueJudgement}
+use Rattle.rel_lang.specs.Typed.{AreDistinct, IsTypedRel, IsTypedBody, IsTypedProc, IsTypedUnit, IsTypedJudgement, IsTypedItem, item_name, signature_of_proc}
 use Rattle.rel_lang.specs.TrueBundle.{IsTrueItem, IsTrueBundle}
 use Rattle.rel_logic.specs.Syntax.{Sqt}
 use Rattle.rel_logic.specs.Truth.{IsValid}
@@ -17,6 +17,7 @@ use Rattle.rel_linking.specs.Form.{Parts, IsPlainUnit, IsStraight}
 use Rattle.rel_linking.specs.Obligation.{obligation_of}
 use Rattle.rel_linking.proofs.Runs.{word_itself, words_differ}
 use Rattle.rel_linking.proofs.PlainUnits.{plain_meets}
+use Rattle.rel_linking.proofs.Walks.{no_tables}
 use Rattle.rel_linking.proofs.Related.{judgement_true}
 
 abbrev within : UnitItem → Proc → Subject
@@ -28,9 +29,10 @@ found_proc u q plain =
     ap (λ ps. option_map (within u) (find_proc q.name ps)) plain.procs
     ∙ ap (λ b. option_map (within u) (if b then Some q else None)) (word_itself q.name)
 
-distinct_of : (tables : Tables) (u : UnitItem) (q : Proc) → IsTypedUnit tables u → IsPlainUnit u q → AreDistinct (names_of (body_scope (unit_setting u q)))
-distinct_of tables u q typed plain =
-    (subst (AllByRecursion (λ p. IsTypedProc tables (unit_setting u p) (map signature_of_proc u.procs) p)) plain.procs typed.procs).0.body.names
+-- its body is typed
+typed_body : (u : UnitItem) (q : Proc) → IsTypedUnit no_tables u → IsPlainUnit u q → IsTypedBody no_tables (unit_setting u q) (map signature_of_proc u.procs) q.body.commands
+typed_body u q typed plain =
+    (subst (AllByRecursion (λ p. IsTypedProc no_tables (unit_setting u p) (map signature_of_proc u.procs) p)) plain.procs typed.procs).0.body
 
 module _ (b : Bundle) (k : Parts) (form : IsStraight b k) (valid : IsValid (obligation_of k)) where
   abbrev three : List Item
@@ -73,12 +75,33 @@ module _ (b : Bundle) (k : Parts) (form : IsStraight b k) (valid : IsValid (obli
       ∙ ap (λ c. found (k.right.name, k.right_proc.name) (if c then Some k.right else None)) (word_itself k.right.name)
       ∙ found_proc k.right k.right_proc form.parts.right
 
+  -- there are no classes
+  tables_are : tables ≡ no_tables
+  tables_are = ap (λ is. record { classes = map (λ c. c.name) (class_items is); fields = fields_of (class_items is) }) form.parts.items
+
+  left_unit : IsTypedUnit no_tables k.left
+  left_unit = subst (λ t. IsTypedUnit t k.left) tables_are typed.0
+
+  right_unit : IsTypedUnit no_tables k.right
+  right_unit = subst (λ t. IsTypedUnit t k.right) tables_are typed.1.0
+
+  typed_judgement : IsTypedJudgement b k.judgement left_subject right_subject
+  typed_judgement =
+      subst (λ o. IsSomeAnd o (λ r. IsTypedJudgement b k.judgement left_subject r)) right_found
+      (subst (λ o. IsSomeAnd o (λ l. IsSomeAnd (subject_of b k.judgement.right) (λ r. IsTypedJudgement b k.judgement l r))) left_found typed.1.1.0)
+
+  true_of : IsTrueOf no_tables k.judgement left_subject right_subject
+  true_of =
+      judgement_true k form.parts.left form.parts.right _ _ (typed_body k.left k.left_proc left_unit form.parts.left) (typed_body k.right k.right_proc right_unit form.parts.right)
+      (subst (λ t. IsTypedRel t false (pre_scope (setting_of left_subject)) (pre_scope (setting_of right_subject)) k.judgement.needs.formula) tables_are typed_judgement.needs)
+      (subst (λ t. IsTypedRel t true (post_scope (setting_of left_subject)) (post_scope (setting_of right_subject)) k.judgement.gives.formula) tables_are typed_judgement.gives)
+      valid
+
   the_judgement : IsTrueJudgement b k.judgement
   the_judgement =
       subst (λ o. IsSomeAnd o (λ l. IsSomeAnd (subject_of b k.judgement.right) (λ r. IsTrueOf tables k.judgement l r))) (sym left_found)
       (subst (λ o. IsSomeAnd o (λ r. IsTrueOf tables k.judgement left_subject r)) (sym right_found)
-      (judgement_true tables k form.parts.left form.parts.right (distinct_of tables k.left k.left_proc typed.0 form.parts.left)
-      (distinct_of tables k.right k.right_proc typed.1.0 form.parts.right) form.parts.needs form.parts.gives valid))
+      (subst (λ t. IsTrueOf t k.judgement left_subject right_subject) (sym tables_are) true_of))
 
   unit_true : (u : UnitItem) (q : Proc) → IsTypedUnit tables u → IsPlainUnit u q → IsTrueItem b (OfUnit u)
   unit_true u q t plain =

@@ -1,73 +1,26 @@
--- A walk along a block: its equations are true of the values that the run assigns, and its store describes the state at the end.
-use Rattle.std.proofs.Common.{◌≡◌, ℕ, zero, suc, ◌+◌, pos, ◌+ℤ◌, ◌-ℤ◌, Bool, true, false, if◌then◌else◌, inl, inr, List, [], ◌∷◌, ◌++◌, get_or, drop, length, map, Some, refl, sym, ap, ◌∙◌, arith}
+-- A walk along a block: its equations are true of the values that the run assigns, and its store stands for the state at the end.
+use Rattle.std.proofs.Common.{◌≡◌, ℕ, zero, suc, ◌+◌, pos, Bool, true, false, if◌then◌else◌, inl, inr, List, [], ◌∷◌, ◌++◌, get_or, drop, length, Some, refl, sym, ap, ◌∙◌, arith}
 use Rattle.std.specs.List.{AllByRecursion}
 use Rattle.std.specs.Str.{bytes_eq}
-use Rattle.rel_lang.specs.Syntax.{Word, Ty, Expression, Var, Num, Add, Sub, At, Assign, Block, End, Then, Decl, Effect}
-use Rattle.rel_lang.specs.State.{Tables, Value, Number, as_number, Owner, ByCall, State, Variable, Scope, find_variable, read_variable, write_variable}
+use Rattle.rel_lang.specs.Syntax.{Word, At, Assign, Block, End, Then, Effect}
+use Rattle.rel_lang.specs.State.{Tables, Value, State, Variable, Scope, find_variable, write_variable}
 use Rattle.rel_lang.specs.Value.{value_of}
-use Rattle.rel_lang.specs.Scope.{declared, result_name, result_variable}
-use Rattle.rel_lang.specs.Typed.{IsAmong, AreDistinct}
-use Rattle.rel_logic.specs.Syntax as L
-use Rattle.rel_logic.specs.Truth.{Elem, number, Valuation, value, IsTrueAt}
-use Rattle.rel_logic.specs.Truth as T
-use Rattle.rel_linking.specs.Form.{IsArithmetic, AssignsListed}
-use Rattle.rel_linking.specs.Obligation.{Store, look_up, with_term, term_of, numbered, walk, block_len}
-use Rattle.rel_linking.proofs.Runs.{word_itself, words_differ, final, write_itself, write_other, write_found_other}
+use Rattle.rel_lang.specs.Typed.{IsAmong, AreDistinct, names_of, Names, IsTypedBlock}
+use Rattle.rel_logic.specs.Syntax.{Trm, var}
+use Rattle.rel_logic.specs.Truth.{Elem, number, rgn, Valuation, IsTrueAt}
+use Rattle.rel_encode.specs.Numbers.{declarations_of}
+use Rattle.rel_encode.specs.Terms.{Store}
+use Rattle.rel_encode.specs.Meaning.{elem_of, HasTypedHeap, AreValues, AreMaps, StandsFor}
+use Rattle.rel_encode.proofs.ExactTerms.{exact_term}
+use Rattle.rel_linking.specs.Form.{AssignsListed}
+use Rattle.rel_linking.specs.Obligation.{no_numbers, with_term, assigned_store, walk, block_len}
+use Rattle.rel_linking.proofs.Runs.{word_itself, words_differ, write_alloc, write_heap, final, write_itself, write_other, write_found_other}
 
--- ---- a store that describes a state
-
--- the value of a variable as an element
-abbrev pub value_at : State → Variable → Elem
-value_at s x = number (as_number (s.vars x.owner x.name))
-
--- each variable's term has its value
-abbrev pub Describes : Valuation → Store → Scope → State → Type 0
-Describes r [] [] s = Unit {0}
-Describes r [] (x ∷ xs) s = ⊥
-Describes r (p ∷ ps) [] s = ⊥
-Describes r (p ∷ ps) (x ∷ xs) s = (p.0 ≡ x.name) × (value r [] p.1 ≡ value_at s x) × Describes r ps xs s
-
--- each name's term has the value that the name has
-abbrev pub Finds : Valuation → Store → Scope → State → Type 0
-Finds r st sc s = (x : Word) → value r [] (look_up x st) ≡ number (as_number (read_variable (find_variable x sc) s))
-
-finds : (r : Valuation) (st : Store) (sc : Scope) (s : State) → Describes r st sc s → Finds r st sc s
-finds r [] [] s d y = refl
-finds r [] (x ∷ xs) s d y = absurd d
-finds r (p ∷ ps) [] s d y = absurd d
-finds r (p ∷ ps) (x ∷ xs) s d y =
-    ap (λ z. value r [] (if bytes_eq y z then p.1 else look_up y ps)) d.0
-    ∙ elim (bytes_eq y x.name) as (λ b. value r [] (if b then p.1 else look_up y ps) ≡ number (as_number (read_variable (if b then Some x else find_variable y xs) s))) [
-      | true ↦ d.1
-      | false ↦ finds r ps xs s d.2 y
-    ]
-
-module _ (r : Valuation) (st : Store) (tables : Tables) (sc : Scope) (before s : State) (f : Finds r st sc s) where
-  pub term_value : (e : Expression) → IsArithmetic e → value r [] (term_of st e) ≡ number (as_number (value_of tables sc e before s))
-  term_value (Var x) h = f x
-  term_value (Num n) h = refl
-  term_value (Add a b) h =
-      let m = ap T.as_number (term_value a h.0) in
-      let n = ap T.as_number (term_value b h.1) in
-      λ i. number (m i +ℤ n i)
-  term_value (Sub a b) h =
-      let m = ap T.as_number (term_value a h.0) in
-      let n = ap T.as_number (term_value b h.1) in
-      λ i. number (m i -ℤ n i)
-  term_value _ h = absurd h
+-- a bundle without classes
+abbrev pub no_tables : Tables
+no_tables = record { classes = []; fields = [] }
 
 -- ---- an assignment
-
-describes_other : (r : Valuation) (st : Store) (sc : Scope) (s : State) (w : Variable) (v : Value) → (IsAmong w.name (map (λ x. x.name) sc) → ⊥) → Describes r st sc s
-    → Describes r st sc (write_variable (Some w) v s)
-describes_other r [] [] s w v other d = tt
-describes_other r [] (x ∷ xs) s w v other d = absurd d
-describes_other r (p ∷ ps) [] s w v other d = absurd d
-describes_other r (p ∷ ps) (x ∷ xs) s w v other d = (
-  d.0,
-  d.1 ∙ ap (λ z. number (as_number z)) (sym (write_other w v s x.owner x.name (words_differ x.name w.name (λ e. other (inl (sym e)))))),
-  describes_other r ps xs s w v (λ k. other (inr k)) d.2,
-)
 
 turned : (x y : Word) → bytes_eq x y ≡ false → bytes_eq y x ≡ false
 turned x y e = words_differ y x (λ same. absurd (clash (bytes_eq x y) (same_text x y (sym same)) e))
@@ -78,43 +31,71 @@ turned x y e = words_differ y x (λ same. absurd (clash (bytes_eq x y) (same_tex
     same_text : (a b : Word) → a ≡ b → bytes_eq a b ≡ true
     same_text a b is = ap (λ z. bytes_eq z b) is ∙ word_itself b
 
-describes_write : (r : Valuation) (n : ℕ) (x : Word) (v : Value) (s : State) (st : Store) (sc : Scope) → AreDistinct (map (λ y. y.name) sc) → r n ≡ number (as_number v) → Describes r st sc s
-    → Describes r (with_term x (L.var n) st) sc (write_variable (find_variable x sc) v s)
-describes_write r n x v s [] [] distinct at d = tt
-describes_write r n x v s [] (y ∷ ys) distinct at d = absurd d
-describes_write r n x v s (p ∷ ps) [] distinct at d = absurd d
-describes_write r n x v s (p ∷ ps) (y ∷ ys) distinct at d =
-    elim (bytes_eq x y.name) as (λ b. bytes_eq x y.name ≡ b → Describes r (with_term x (L.var n) (p ∷ ps)) (y ∷ ys) (write_variable (if b then Some y else find_variable x ys) v s)) [
-      | true ↦ λ e. rw (ap (bytes_eq x) d.0 ∙ e)
-          (d.0, at ∙ ap (λ z. number (as_number z)) (sym (write_itself y v s)), describes_other r ps ys s y v distinct.0 d.2)
-      | false ↦ λ e. rw (ap (bytes_eq x) d.0 ∙ e) (
-        d.0,
-        d.1 ∙ ap (λ z. number (as_number z)) (sym (write_found_other x ys v s y.owner y.name (turned x y.name e))),
-        describes_write r n x v s ps ys distinct.1 at d.2,
-      )
-    ] refl
+module _ (r : Valuation) where
+  -- the values stay where another variable is written
+  values_other : (sc : Scope) (ts : List Trm) (s : State) (w : Variable) (v : Value) → (IsAmong w.name (names_of sc) → ⊥) → AreValues r [] sc ts s
+      → AreValues r [] sc ts (write_variable (Some w) v s)
+  values_other [] [] s w v other h = tt
+  values_other [] (t ∷ ts) s w v other h = absurd h
+  values_other (x ∷ xs) [] s w v other h = absurd h
+  values_other (x ∷ xs) (t ∷ ts) s w v other h = (
+    h.0 ∙ ap elem_of (sym (write_other w v s x.owner x.name (words_differ x.name w.name (λ e. other (inl (sym e)))))),
+    values_other xs ts s w v (λ k. other (inr k)) h.1,
+  )
+
+  values_write : (n : ℕ) (x : Word) (v : Value) (s : State) (sc : Scope) (ts : List Trm) → AreDistinct (names_of sc) → r n ≡ elem_of v → AreValues r [] sc ts s
+      → AreValues r [] sc (with_term x (var n) (declarations_of sc) ts) (write_variable (find_variable x sc) v s)
+  values_write n x v s [] [] distinct at h = tt
+  values_write n x v s [] (t ∷ ts) distinct at h = absurd h
+  values_write n x v s (y ∷ ys) [] distinct at h = absurd h
+  values_write n x v s (y ∷ ys) (t ∷ ts) distinct at h = cases (bytes_eq x y.name) refl (values_write n x v s ys ts distinct.1 at h.1)
+    where
+      cases : (b : Bool) → bytes_eq x y.name ≡ b → AreValues r [] ys (with_term x (var n) (declarations_of ys) ts) (write_variable (find_variable x ys) v s)
+          → AreValues r [] (y ∷ ys) (if b then var n ∷ ts else t ∷ with_term x (var n) (declarations_of ys) ts) (write_variable (if b then Some y else find_variable x ys) v s)
+      cases true e later = (at ∙ ap elem_of (sym (write_itself y v s)), values_other ys ts s y v distinct.0 h.1)
+      cases false e later = (h.0 ∙ ap elem_of (sym (write_found_other x ys v s y.owner y.name (turned x y.name e))), later)
+
+  no_maps : (ms : List Trm) (s t : State) → AreMaps no_tables r [] [] ms s → AreMaps no_tables r [] [] ms t
+  no_maps [] s t h = tt
+  no_maps (m ∷ ms) s t h = absurd h
+
+  stands_write : (n : ℕ) (x : Word) (v : Value) (s : State) (sc : Scope) (st : Store) → AreDistinct (names_of sc) → r n ≡ elem_of v → StandsFor no_tables sc r [] st s
+      → StandsFor no_tables sc r [] (assigned_store x (var n) (declarations_of sc) st) (write_variable (find_variable x sc) v s)
+  stands_write n x v s sc st distinct at h = record {
+    variables = values_write n x v s sc st.vars distinct at h.variables;
+    maps = no_maps st.maps s (write_variable (find_variable x sc) v s) h.maps;
+    alloc = h.alloc ∙ ap rgn (sym (write_alloc (find_variable x sc) v s));
+  }
+
+-- without fields every location holds 0
+pub same_heap : (s t : State) → t.heap ≡ s.heap → HasTypedHeap no_tables s → HasTypedHeap no_tables t
+same_heap s t e h o f = ap (λ k. k o f) e ∙ h o f
 
 -- ---- a walk
 
-module _ (r : Valuation) (tables : Tables) (sc : Scope) where
+module _ (r : Valuation) (ns : Names) where
   -- the values that the run assigns are those of the variables from n on
   abbrev pub Follows : ℕ → Block → State → Type 0
   Follows n End s = Unit {0}
   Follows n (Then (At at (Assign x e)) cs) s =
-      (r n ≡ number (as_number (value_of tables sc e s s))) × Follows (suc n) cs (write_variable (find_variable x sc) (value_of tables sc e s s) s)
+      (r n ≡ elem_of (value_of no_tables ns.scope e s s))
+      × Follows (suc n) cs (write_variable (find_variable x ns.scope) (value_of no_tables ns.scope e s s) s)
   Follows n (Then c cs) s = ⊥
 
-  pub walk_true : (writes : List Effect) (b : Block) (n : ℕ) (st : Store) (s : State) → AssignsListed writes b → AreDistinct (map (λ y. y.name) sc) → Describes r st sc s → Follows n b s
-      → AllByRecursion (IsTrueAt r []) (walk st n b).hyps × Describes r (walk st n b).store sc (final tables sc b s)
-  walk_true writes End n st s l distinct d f = (tt, d)
-  walk_true writes (Then (At at (Assign x e)) cs) n st s l distinct d f =
-      let v = value_of tables sc e s s in
-      let below = walk_true writes cs (suc n) (with_term x (L.var n) st) (write_variable (find_variable x sc) v s) l.2 distinct (describes_write r n x v s st sc distinct f.0 d) f.1 in
-      ((f.0 ∙ sym (term_value r st tables sc s s (finds r st sc s d) e l.1), below.0), below.1)
-  walk_true writes (Then c cs) n st s l distinct d f = absurd l
-
-pub describes_finds : (r : Valuation) (st : Store) (sc : Scope) (s : State) → Describes r st sc s → Finds r st sc s
-describes_finds = finds
+  pub walk_true : (writes : List Effect) (b : Block) (n : ℕ) (st : Store) (s : State)
+      → AssignsListed writes b → IsTypedBlock no_tables ns b → AreDistinct (names_of ns.scope) → HasTypedHeap no_tables s
+      → StandsFor no_tables ns.scope r [] st s → Follows n b s
+      → AllByRecursion (IsTrueAt r []) (walk (declarations_of ns.scope) st n b).hyps
+      × StandsFor no_tables ns.scope r [] (walk (declarations_of ns.scope) st n b).store (final no_tables ns.scope b s)
+  walk_true writes End n st s l t distinct heap stands f = (tt, stands)
+  walk_true writes (Then (At at (Assign x e)) cs) n st s l t distinct heap stands f =
+      let v = value_of no_tables ns.scope e s s in
+      let after = write_variable (find_variable x ns.scope) v s in
+      let is = exact_term no_numbers (declarations_of ns.scope) e st st no_tables ns.scope false t.0.0 refl refl t.0.2.1 r [] s s heap heap stands stands in
+      let below = walk_true writes cs (suc n) (assigned_store x (var n) (declarations_of ns.scope) st) after l.2 t.1 distinct
+      (same_heap s after (write_heap (find_variable x ns.scope) v s) heap) (stands_write r n x v s ns.scope st distinct f.0 stands) f.1 in
+      ((f.0 ∙ sym is, below.0), below.1)
+  walk_true writes (Then c cs) n st s l t distinct heap stands f = absurd l
 
 -- ---- where values stand in a list of them
 
@@ -138,11 +119,12 @@ at_after values n (x ∷ xs) ys e =
     let same : n + suc (length xs) ≡ suc n + length xs = omega arith in
     ap (λ m. drop m values) same ∙ at_after values (suc n) xs ys (at_next values n x (xs ++ ys) e)
 
-module _ (tables : Tables) (sc : Scope) where
+module _ (ns : Names) where
   -- the values that a run assigns
   abbrev pub assigned : Block → State → List Elem
   assigned End s = []
-  assigned (Then (At at (Assign x e)) cs) s = number (as_number (value_of tables sc e s s)) ∷ assigned cs (write_variable (find_variable x sc) (value_of tables sc e s s) s)
+  assigned (Then (At at (Assign x e)) cs) s =
+      elem_of (value_of no_tables ns.scope e s s) ∷ assigned cs (write_variable (find_variable x ns.scope) (value_of no_tables ns.scope e s s) s)
   assigned (Then c cs) s = []
 
   pub length-assigned : (writes : List Effect) (b : Block) (s : State) → AssignsListed writes b → length (assigned b s) ≡ block_len b
@@ -151,30 +133,8 @@ module _ (tables : Tables) (sc : Scope) where
   length-assigned writes (Then c cs) s l = absurd l
 
   pub follows : (values : List Elem) (writes : List Effect) (b : Block) (n : ℕ) (s : State) (rest : List Elem) → AssignsListed writes b → drop n values ≡ assigned b s ++ rest
-      → Follows (nth values) tables sc n b s
+      → Follows (nth values) ns n b s
   follows values writes End n s rest l e = tt
   follows values writes (Then (At at (Assign x e)) cs) n s rest l is =
       (at_here values n _ _ is, follows values writes cs (suc n) _ rest l.2 (at_next values n _ _ is))
   follows values writes (Then c cs) n s rest l is = absurd l
-
--- ---- the start
-
--- the values of an item's variables
-abbrev pub values_of : Owner → State → List Decl → List Elem
-values_of o s ds = map (λ d. number (as_number (s.vars o d.name))) ds
-
-pub start_describes : (values : List Elem) (o : Owner) (ds : List Decl) (n : ℕ) (s : State) (t : Ty) (rest : List Elem) → drop n values ≡ values_of o s ds ++ rest
-    → s.vars ByCall result_name ≡ Number (pos 0) → Describes (nth values) (numbered n ds) (declared o true ds ++ result_variable (Some t)) s
-start_describes values o [] n s t rest e at_zero = (refl, ap (λ v. number (as_number v)) (sym at_zero), tt)
-start_describes values o (d ∷ ds) n s t rest e at_zero = (refl, at_here values n _ _ e, start_describes values o ds (suc n) s t rest (at_next values n _ _ e) at_zero)
-
--- a precondition doesn't see `result`, which stands for 0 there
-pub start_finds : (values : List Elem) (o : Owner) (ds : List Decl) (n : ℕ) (s : State) (rest : List Elem) → drop n values ≡ values_of o s ds ++ rest
-    → Finds (nth values) (numbered n ds) (declared o true ds) s
-start_finds values o [] n s rest e y = elim (bytes_eq y result_name) as (λ b. value (nth values) [] (if b then L.int (pos 0) else L.int (pos 0)) ≡ number (pos 0)) [ true ↦ refl | false ↦ refl ]
-start_finds values o (d ∷ ds) n s rest e y =
-    elim (bytes_eq y d.name) as (λ b. value (nth values) [] (if b then L.var n else look_up y (numbered (suc n) ds))
-    ≡ number (as_number (read_variable (if b then Some (record { name = d.name; owner = o; ty = d.ty; is_assignable = true }) else find_variable y (declared o true ds)) s))) [
-      | true ↦ at_here values n _ _ e
-      | false ↦ start_finds values o ds (suc n) s rest (at_next values n _ _ e) y
-    ]

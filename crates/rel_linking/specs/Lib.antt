@@ -1,4 +1,5 @@
 pub mod Form
+pub mod Layout
 pub mod Obligation
 pub mod Parts
 pub mod Scope

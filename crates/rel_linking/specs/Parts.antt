@@ -1,7 +1,7 @@
 -- The parts of a bundle as the code holds them, and what is asked of them where the bundle is typed.
 use Rattle.std.specs.Prelude.{◌≡◌, ◌<◌, ◌^◌, ◌⊎◌, ◌↔◌, IsTrue, is_some, List, [], ◌∷◌, length, map}
 use Rattle.std.specs.List.{AllByRecursion}
-use Rattle.rel_lang.specs.Syntax.{Word, Int, True, Command, At, Assign, Block, BiForm, Split, Effect, Global, Locations, OfUnit, OfJudgement, Bundle, without_at}
+use Rattle.rel_lang.specs.Syntax.{Word, Int, True, Command, At, Assign, Block, BiForm, Split, Effect, Global, Locations, without_at}
 use Rattle.rel_lang.specs.Scope.{result_name}
 use Rattle.rel_lang.specs.declared.command.Command as C
 use Rattle.rel_lang.specs.declared.bundle.Decl as D
@@ -13,12 +13,6 @@ use Rattle.rel_lang.specs.View.{type_of, effect_of, formula_of, command_of, rel_
 use Rattle.rel_flaws.specs.Entries.{find_entry, with_entry}
 use Rattle.rel_linking.specs.Form as F
 use Rattle.rel_linking.specs.Form.{IsArithmetic, IsAgreement, IsListed, IsGlobal, AssignsListed, IsSplitOf}
-
-abbrev pub name_of : D.Decl → Word
-name_of d = d.name
-
-abbrev pub names_of : List D.Decl → List Word
-names_of ds = map name_of ds
 
 -- names without more
 abbrev pub Names : Type 0
@@ -112,7 +106,3 @@ pub record AreJudged (l r : U.UnitItem) (j : J.Judgement) : Type 0 where
 pub record HasFew (u : U.UnitItem) : Type 0 where
   pub globals : length u.globals < 2 ^ 30
   pub commands : AllByRecursion (λ p. length p.body.commands < 2 ^ 30) u.procs
-
--- the bundle of these items
-abbrev pub bundle_with : U.UnitItem → U.UnitItem → J.Judgement → Bundle
-bundle_with l r j = record { items = OfUnit (unit_of l) ∷ OfUnit (unit_of r) ∷ OfJudgement (judgement_of j) ∷ [] }

@@ -1,32 +1,25 @@
--- The store that a side's variables stand for, what one command gives, and the obligation of a bundle.
-use Rattle.std.specs.Prelude.{◌≡◌, ℕ, List, map, Option, Some, None}
-use Rattle.rel_lang.specs.Syntax.{Word, Form, At, Then, End, Bundle}
+-- What one command gives, and the obligation of a bundle.
+use Rattle.std.specs.Prelude.{◌≡◌, ℕ, List, Option, Some, None}
+use Rattle.rel_lang.specs.Syntax.{Form, At, Then, End, Decl, Bundle}
 use Rattle.rel_lang.specs.TrueBundle.{IsTrueBundle}
 use Rattle.rel_logic.specs.Truth.{IsValid}
 use Rattle.rel_lang.specs.View.{unit_of, proc_of, judgement_of}
 use Rattle.rel_lang.specs.declared.bundle.UnitItem.{UnitItem}
 use Rattle.rel_lang.specs.declared.bundle.Proc.{Proc}
 use Rattle.rel_lang.specs.declared.bundle.Judgement.{Judgement}
-use Rattle.rel_logic.specs.View.{trm_of, sequent_of}
+use Rattle.rel_logic.specs.View.{sequent_of}
 use Rattle.rel_logic.specs.declared.sequent.Sequent.{Sequent}
-use Rattle.rel_logic.specs.declared.term.Term.{Term}
-use Rattle.rel_linking.specs.declared.terms.Terms.{Terms}
+use Rattle.rel_encode.specs.Terms.{Store}
 use Rattle.rel_linking.specs.Form.{Parts, IsStraight}
 use Rattle.rel_linking.specs.Parts.{AreJudged}
-use Rattle.rel_linking.specs.Obligation.{Store, Walked, walk, obligation_of}
-
-abbrev pub store_in : List (Word × Term) → Store
-store_in es = map (λ e. (e.0, trm_of e.1)) es
-
-abbrev pub store_of : Terms → Store
-store_of s = store_in s.variables
+use Rattle.rel_linking.specs.Obligation.{Walked, walk, obligation_of}
 
 -- what the parts of a bundle stand for
 abbrev pub parts_of : UnitItem → Proc → UnitItem → Proc → Judgement → Parts
 parts_of l p r q j = record { left = unit_of l; left_proc = proc_of p; right = unit_of r; right_proc = proc_of q; judgement = judgement_of j }
 
-abbrev pub one_step : Store → ℕ → Form → Walked
-one_step st n f = walk st n (Then (At 0 f) End)
+abbrev pub one_step : List Decl → Store → ℕ → Form → Walked
+one_step ds st n f = walk ds st n (Then (At 0 f) End)
 
 -- the bundle is straight, the sequent is its obligation, and where it is valid the bundle is true
 pub record IsObligationOf (b : Bundle) (q : Sequent) : Type 0 where

@@ -3,3 +3,5 @@ pub mod Values
 pub mod Answered
 pub mod Sorts
 pub mod Stable
+pub mod Kept
+pub mod SameTrees

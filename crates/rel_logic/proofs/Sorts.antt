@@ -107,10 +107,10 @@ taken_two v w a b t s e = let h = taken v a (takes w b (Some t)) s e in let k = 
 
 -- the sorts of a sorted term's parts
 module _ (sorts bounds : List Srt) where
-  abbrev Has : Trm → Srt → Type 0
+  abbrev pub Has : Trm → Srt → Type 0
   Has t s = sort_at sorts bounds t ≡ Some s
 
-  abbrev Parts : Trm → Srt → Type 0
+  abbrev pub Parts : Trm → Srt → Type 0
   Parts (var n) s = Has (var n) s
   Parts (bound n) s = Has (bound n) s
   Parts (int n) s = int_sort ≡ s
@@ -129,7 +129,7 @@ module _ (sorts bounds : List Srt) where
   Parts (of c g) s = Has g rgn_sort × (rgn_sort ≡ s)
   Parts (link p a b) s = Has p bij_sort × Has a ref_sort × Has b ref_sort × (bij_sort ≡ s)
 
-  parts : (t : Trm) (s : Srt) → Has t s → Parts t s
+  pub parts : (t : Trm) (s : Srt) → Has t s → Parts t s
   parts (var n) s e = e
   parts (bound n) s e = e
   parts (int n) s e = some_same int_sort s e
@@ -248,15 +248,15 @@ agree_under sorts bs cs s e h zero below = refl
 agree_under sorts bs cs s e h (suc n) below = h n (omega (arith, below))
 
 -- of the sorts of an atom's terms
-one_sorted : (sorts bounds : List Srt) (s : Srt) (t : Trm) → has_sort sorts bounds s t ≡ true → sort_at sorts bounds t ≡ Some s
+pub one_sorted : (sorts bounds : List Srt) (s : Srt) (t : Trm) → has_sort sorts bounds s t ≡ true → sort_at sorts bounds t ≡ Some s
 one_sorted sorts bounds s t e = is_of_some s (sort_at sorts bounds t) e
 
-two_sorted : (sorts bounds : List Srt) (s t : Srt) (a b : Trm) → (has_sort sorts bounds s a && has_sort sorts bounds t b) ≡ true
+pub two_sorted : (sorts bounds : List Srt) (s t : Srt) (a b : Trm) → (has_sort sorts bounds s a && has_sort sorts bounds t b) ≡ true
     → (sort_at sorts bounds a ≡ Some s) × (sort_at sorts bounds b ≡ Some t)
 two_sorted sorts bounds s t a b e =
     let h = both_true (has_sort sorts bounds s a) (has_sort sorts bounds t b) e in (one_sorted sorts bounds s a h.0, one_sorted sorts bounds t b h.1)
 
-three_sorted : (sorts bounds : List Srt) (p a b : Trm) → (has_sort sorts bounds bij_sort p && (has_sort sorts bounds ref_sort a && has_sort sorts bounds ref_sort b)) ≡ true
+pub three_sorted : (sorts bounds : List Srt) (p a b : Trm) → (has_sort sorts bounds bij_sort p && (has_sort sorts bounds ref_sort a && has_sort sorts bounds ref_sort b)) ≡ true
     → (sort_at sorts bounds p ≡ Some bij_sort) × (sort_at sorts bounds a ≡ Some ref_sort) × (sort_at sorts bounds b ≡ Some ref_sort)
 three_sorted sorts bounds p a b e =
     let h = both_true (has_sort sorts bounds bij_sort p) (has_sort sorts bounds ref_sort a && has_sort sorts bounds ref_sort b) e in
@@ -342,6 +342,9 @@ sorted_free sorts bounds (imp a b) e =
     let h = both_true (is_sorted sorts bounds a) (is_sorted sorts bounds b) e in both_below _ _ _ (sorted_free sorts bounds a h.0) (sorted_free sorts bounds b h.1)
 sorted_free sorts bounds (every s a) e = less_one _ _ (sorted_free sorts (s ∷ bounds) a e)
 sorted_free sorts bounds (some s a) e = less_one _ _ (sorted_free sorts (s ∷ bounds) a e)
+
+pub body_bound : (sorts : List Srt) (s : Srt) (f : Fml) → is_sorted sorts (s ∷ []) f ≡ true → free_bound_of f ≤ 1
+body_bound sorts s f e = sorted_free sorts (s ∷ []) f e
 
 closed : (n : ℕ) → n ≤ 0 → n ≡ 0
 closed n h = omega (arith, h)

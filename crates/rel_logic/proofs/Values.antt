@@ -56,13 +56,13 @@ module _ (x : Place) (t : Trm) (r : Valuation) (bs : List Elem) (q : Valuation) 
   put_value (of c g) = λ i. rgn (of_class c (as_rgn (put_value g i)))
   put_value (link p a b) = λ i. bij (linked (as_pairs (put_value p i)) (as_ref (put_value a i)) (as_ref (put_value b i)))
 
-same_test : {A B : Type 0} (a b : Bool) → Decides a A → Decides b B → (A → B) → (B → A) → a ≡ b
+pub same_test : {A B : Type 0} (a b : Bool) → Decides a A → Decides b B → (A → B) → (B → A) → a ≡ b
 same_test true true d e f g = refl
 same_test true false d e f g = let h = e.1 (f (d.0 refl)) in cc
 same_test false true d e f g = let h = d.1 (g (e.0 refl)) in cc
 same_test false false d e f g = refl
 
-is_false : {A : Type 0} (a : Bool) → Decides a A → ¬ A → a ≡ false
+pub is_false : {A : Type 0} (a : Bool) → Decides a A → ¬ A → a ≡ false
 is_false true d f = absurd (f (d.0 refl))
 is_false false d f = refl
 

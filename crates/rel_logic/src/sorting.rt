@@ -1,5 +1,5 @@
 //! Sorts of terms, and well-sorted formulas.
-ghost use Rattle.std.specs.Prelude.{◌≡◌, ◌↔◌, IsTrue, map, slice_get, []};
+ghost use Rattle.std.specs.Prelude.{◌≡◌, ◌↔◌, ◌≤◌, IsTrue, map, slice_get, [], ◌∷◌};
 ghost use Rattle.rel_logic.specs.View.{sort_of, trm_of, fml_of};
 ghost use Rattle.rel_logic.specs.Scopes.{bounds_of, srt_of};
 ghost use Rattle.rel_logic.specs.Syntax.{Srt};
@@ -207,6 +207,27 @@ fn is_sorted_outside(f: &Fol, sorts: &[Sort]) -> bool
     ensures { result ≡ is_well_sorted (map sort_of sorts.now) (fml_of f.now) }
 {
     is_sorted(f, sorts, &Bounds::Outside)
+}
+
+fn is_sorted_under(f: &Fol, sort: Sort, sorts: &[Sort], outer: &Bounds) -> bool
+    ensures { result ≡ is_sorted (map sort_of sorts.now) (sort_of sort ∷ bounds_of outer.now) (fml_of f.now) }
+{
+    is_sorted(f, sorts, &Bounds::Under(sort, &*outer))
+}
+
+fn is_body(f: &Fol, sort: Sort, sorts: &[Sort]) -> bool
+    ensures { result ≡ is_sorted (map sort_of sorts.now) (sort_of sort ∷ []) (fml_of f.now) }
+{
+    is_sorted_under(f, sort, sorts, &Bounds::Outside)
+}
+
+/// Whether the sorts of `f` fit where one number is bound, of the sort, over variables of these
+/// sorts.
+pub fn body_sorted(f: &Fol, sort: Sort, sorts: &[Sort]) -> bool
+    ensures exact { result ≡ is_sorted (map sort_of sorts.now) (sort_of sort ∷ []) (fml_of f.now) }
+    ensures one { IsTrue result → free_bound_of (fml_of f.now) ≤ 1 }
+{
+    is_body(f, sort, sorts)
 }
 
 /// The sort of a closed term over variables of these sorts, where it has one. Its value has it.

@@ -3,7 +3,7 @@ use Rattle.std.proofs.Common.{◌≡◌, ℕ, suc, ◌<◌, ◌^◌, true, false
 use Rattle.std.proofs.lemmas.Bool.{leb-true}
 use Rattle.std.specs.Prelude.{nat_le}
 use Rattle.serde_json.specs.Data.{Data}
-use Rattle.rel_derive.specs.declared.step.Step.{Step}
+use Rattle.rel_straight.specs.declared.step.Step.{Step}
 use Rattle.rel_top.specs.ProofFile.{traverse, step_of, steps_of, derivation_of, json_of, proof_of}
 
 length_traverse : {A B : Type 0} (f : A → Option B) (xs : List A) (ys : List B) → traverse f xs ≡ Some ys → length ys ≡ length xs

@@ -4,12 +4,12 @@ use Rattle.rel_io.specs.Told.{Told, untold, absent, bytes, IsToldAs}
 use Rattle.rel_lang.specs.Syntax.{Bundle}
 use Rattle.rel_flaws.specs.Flaws.{Fault}
 use Rattle.rel_types.specs.Items.{first_fault}
-use Rattle.rel_derive.specs.declared.step.Step.{Step}
-use Rattle.rel_derive.specs.declared.checker.Verdict as D
-use Rattle.rel_derive.specs.declared.checker.Verdict.TheVariants.{Accepted, BadStep, OpenNodes}
-use Rattle.rel_derive.specs.Stack.{IsVerdict}
-use Rattle.rel_derive.proofs.Exact.{verdict_is_only}
-use Rattle.rel_derive.proofs.Sound.{valid_from_accepted}
+use Rattle.rel_straight.specs.declared.step.Step.{Step}
+use Rattle.rel_straight.specs.declared.checker.Verdict as D
+use Rattle.rel_straight.specs.declared.checker.Verdict.TheVariants.{Accepted, BadStep, OpenNodes}
+use Rattle.rel_straight.specs.Stack.{IsVerdict}
+use Rattle.rel_straight.proofs.Exact.{verdict_is_only}
+use Rattle.rel_straight.proofs.Sound.{valid_from_accepted}
 use Rattle.rel_linking.specs.Form.{Parts, IsStraight}
 use Rattle.rel_linking.specs.Obligation.{obligation_of}
 use Rattle.rel_decls.proofs.OneFault.{one_fault, unfit}

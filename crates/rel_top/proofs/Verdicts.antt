@@ -23,10 +23,10 @@ use Rattle.rel_types.specs.Items.{first_fault}
 use Rattle.rel_logic.specs.declared.sequent.Sequent.{Sequent}
 use Rattle.rel_logic.specs.Truth.{IsValid}
 use Rattle.rel_logic.specs.View.{sequent_of}
-use Rattle.rel_derive.specs.declared.step.Step.{Step}
-use Rattle.rel_derive.specs.declared.checker.Verdict as D
-use Rattle.rel_derive.specs.declared.checker.Verdict.TheVariants.{Accepted, BadStep, OpenNodes}
-use Rattle.rel_derive.specs.Stack.{IsVerdict}
+use Rattle.rel_straight.specs.declared.step.Step.{Step}
+use Rattle.rel_straight.specs.declared.checker.Verdict as D
+use Rattle.rel_straight.specs.declared.checker.Verdict.TheVariants.{Accepted, BadStep, OpenNodes}
+use Rattle.rel_straight.specs.Stack.{IsVerdict}
 use Rattle.rel_linking.specs.Form.{Parts, IsStraight}
 use Rattle.rel_linking.specs.Obligation.{obligation_of}
 use Rattle.rel_linking.specs.Scope.{IsObligationOf, IsAnswer}

@@ -5,7 +5,7 @@ use Rattle.rel_lang.specs.Syntax.{Bundle}
 use Rattle.rel_lang.specs.TrueBundle.{IsTrueBundle}
 use Rattle.rel_flaws.specs.Flaws.{Fault}
 use Rattle.rel_types.specs.Items.{first_fault}
-use Rattle.rel_derive.specs.declared.step.Step.{Step}
+use Rattle.rel_straight.specs.declared.step.Step.{Step}
 use Rattle.rel_logic.specs.declared.sequent.Sequent.{Sequent}
 use Rattle.rel_linking.specs.Form.{Parts, IsStraight}
 use Rattle.rel_linking.specs.Scope.{IsObligationOf, IsAnswer}

@@ -5,8 +5,8 @@ use Rattle.std.specs.Str.Parse.{digits_value}
 use Rattle.serde_json.specs.Data.{Data, Items, no_items, item, Members, no_members, member}
 use Rattle.serde_json.specs.Read.{read}
 use Rattle.serde_json.specs.Find.{get, as_number, as_u64, as_str, as_array, as_object}
-use Rattle.rel_derive.specs.declared.step.Step.{Step}
-use Rattle.rel_derive.specs.declared.step.Step.TheVariants.{Neint, Farkas}
+use Rattle.rel_straight.specs.declared.step.Step.{Step}
+use Rattle.rel_straight.specs.declared.step.Step.TheVariants.{Neint, Farkas}
 
 -- f of each element, where it has a value at each
 abbrev pub traverse : {A B : Type 0} → (A → Option B) → List A → Option (List B)

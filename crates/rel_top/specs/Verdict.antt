@@ -9,9 +9,9 @@ use Rattle.rel_decls.specs.declared.fault.TextFault.{TextFault}
 use Rattle.rel_decls.specs.declared.fault.TextFault.TheVariants as faults
 use Rattle.rel_flaws.specs.Flaws.{Fault}
 use Rattle.rel_types.specs.Items.{first_fault}
-use Rattle.rel_derive.specs.Rules.{IsAccepted}
-use Rattle.rel_derive.specs.Stack.{IsBadStep, LeavesOpen}
-use Rattle.rel_derive.specs.declared.step.Step.{Step}
+use Rattle.rel_straight.specs.Rules.{IsAccepted}
+use Rattle.rel_straight.specs.Stack.{IsBadStep, LeavesOpen}
+use Rattle.rel_straight.specs.declared.step.Step.{Step}
 use Rattle.rel_linking.specs.Form.{Parts, IsStraight}
 use Rattle.rel_linking.specs.Obligation.{obligation_of}
 use Rattle.rel_top.specs.ProofFile.{proof_of}

@@ -5,10 +5,12 @@ ghost use Rattle.rel_io.specs.Told.{IsToldAs, IsLonger};
 ghost use Rattle.rel_io.specs.Answers.{IfFailed, UnlessFailed, IfTooLong};
 ghost use Rattle.rel_decls.specs.declared.fault.TextFault.TheVariants as texts;
 ghost use Rattle.rel_lang.specs.Refusal.{Fits};
+ghost use Rattle.rel_lang.specs.State.{tables_of};
 ghost use Rattle.rel_lang.specs.Typed.{IsTyped};
 ghost use Rattle.rel_flaws.specs.Flaws as flaws;
 ghost use Rattle.rel_lang.specs.Syntax as syntax;
 ghost use Rattle.rel_lang.specs.View.{item_of, bundle_of};
+ghost use Rattle.rel_encode.specs.Numbers.{numbers_of, numbered};
 ghost use Rattle.rel_types.specs.Items.{first_fault};
 ghost use Rattle.rel_types.specs.Told.{IsFirst};
 ghost use Rattle.rel_top.specs.Ending.{ReadFailed, unread, answer};
@@ -21,13 +23,14 @@ use crate::proof_file::{ProofFault, read_proof};
 use crate::report;
 use crate::status::Status;
 use rel_decls::{TextFault, parse_bundle};
-use rel_derive::checker::{Verdict, accepts};
-use rel_derive::step::Step;
 use rel_io::{FileFault, Files};
 use rel_lang::bundle::{Bundle, Item};
+use rel_lang::typed::Typed;
 use rel_linking::obligation;
 use rel_list::{Boxed, List, Memory, Name};
 use rel_logic::sequent::Sequent;
+use rel_straight::checker::{Verdict, accepts};
+use rel_straight::step::Step;
 use rel_types::{TypeFault, resolve};
 use std::alloc::Global;
 
@@ -168,12 +171,13 @@ fn check_text<F: Files>(
 }
 
 /// Boxed, since a function that drops a sequent of its own is too large for the check.
-fn boxed_obligation(alloc: Global, bundle: &Bundle) -> Result<Option<Boxed<Sequent>>, Memory>
-    requires fits { Fits (bundle_of bundle.now) }
-    requires typed { IsTyped (bundle_of bundle.now) }
-    ensures { IfOk result (λ o. IsFound (bundle_of bundle.now) o) }
+fn boxed_obligation(alloc: Global, t: &Typed) -> Result<Option<Boxed<Sequent>>, Memory>
+    requires fits { Fits (bundle_of t.now.bundle) }
+    requires typed { IsTyped (bundle_of t.now.bundle) }
+    requires numbers { numbers_of t.now ≡ numbered (tables_of (bundle_of t.now.bundle)) }
+    ensures { IfOk result (λ o. IsFound (bundle_of t.now.bundle) o) }
 {
-    match obligation(alloc, bundle)? {
+    match obligation(alloc, t)? {
         Some(sequent) => Ok(Some(Boxed::new(alloc, sequent)?)),
         None => Ok(None),
     }
@@ -194,28 +198,29 @@ fn check_bundle<F: Files>(
     ensures quiet { IfOk result (λ a. a.status ≢ Status.FileFault → F.faults files.new ≡ F.faults files.old) }
 {
     match resolve(alloc, bundle) {
-        Ok(typed) => Ok(check_typed(alloc, &typed.bundle, proof, files)?),
+        Ok(typed) => Ok(check_typed(alloc, &typed, proof, files)?),
         Err(fault) => Ok(ill_typed(alloc, fault)?),
     }
 }
 
 fn check_typed<F: Files>(
     alloc: Global,
-    bundle: &Bundle,
+    t: &Typed,
     proof: &str,
     files: &mut F,
 ) -> Result<Answer, Memory>
-    requires fits { Fits (bundle_of bundle.now) }
-    requires typed { IsTyped (bundle_of bundle.now) }
-    ensures answer { IfOk result (IsTypedAnswer (bundle_of bundle.now) (F.told files.old)
+    requires fits { Fits (bundle_of t.now.bundle) }
+    requires typed { IsTyped (bundle_of t.now.bundle) }
+    requires numbers { numbers_of t.now ≡ numbered (tables_of (bundle_of t.now.bundle)) }
+    ensures answer { IfOk result (IsTypedAnswer (bundle_of t.now.bundle) (F.told files.old)
         (ReadFailed (F.faults files.old) (F.faults files.new)
         (F.read_faults files.old) (F.read_faults files.new))
         proof.now) }
     ensures contents_stay { F.told files.new ≡ F.told files.old }
     ensures quiet { IfOk result (λ a. a.status ≢ Status.FileFault → F.faults files.new ≡ F.faults files.old) }
 {
-    match boxed_obligation(alloc, bundle)? {
-        Some(sequent) => Ok(check_sequent(alloc, bundle, sequent.get(), proof, files)?),
+    match boxed_obligation(alloc, t)? {
+        Some(sequent) => Ok(check_sequent(alloc, &t.bundle, sequent.get(), proof, files)?),
         None => Ok(without_bundle(alloc)?),
     }
 }

@@ -7,8 +7,8 @@ ghost use Rattle.rel_top.specs.ProofFile.{named_step, step_of, steps_of, is_one 
 ghost use Rattle.rel_top.specs.ProofFile.{has_two_keys as has_two_keys_of, derivations_of, derivation_of};
 ghost use Rattle.rel_top.specs.ProofFile.{json_of, proof_of};
 
-use rel_derive::step::Step;
 use rel_list::{List, Memory};
+use rel_straight::step::Step;
 use serde_json::Value;
 use std::alloc::Global;
 
@@ -237,7 +237,7 @@ pub fn read_proof(alloc: Global, bytes: &[u8]) -> Result<List<Step>, ProofFault>
 #[cfg(test)]
 mod tests {
     use super::read_proof;
-    use rel_derive::step::Step;
+    use rel_straight::step::Step;
     use std::test::Fail;
 
     const THREE_STEPS: &str = "{\"whyrel\":1,\"proofs\":[[[\"neint\",5],\

@@ -49,3 +49,7 @@ HasNoModel n r a = (q : Valuation) → AgreeOn n.sorts r q → ¬ (IsModel (chil
 -- a valuation that no child extends is no model of the node
 abbrev pub LosesNoModel : Nod → List Addition → Type 0
 LosesNoModel n children = (r : Valuation) → AllByRecursion (HasNoModel n r) children → ¬ (IsModel n r)
+
+-- every formula that a child adds is closed and well sorted over the child's variables
+abbrev pub AreSorted : Nod → List Addition → Type 0
+AreSorted n added = AllByRecursion (λ a. AllByRecursion (λ f. IsTrue (is_well_sorted (n.sorts ++ a.fresh) f)) a.forms) added

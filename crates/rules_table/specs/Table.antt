@@ -3,7 +3,7 @@ use Rattle.std.specs.Prelude.{ℕ, ◌==◌, Bool, true, false, ◌&&◌, if◌t
 use Rattle.rel_logic.specs.Syntax.{Srt, Trm, var, Fml, verum, falsum, no, and, or, imp, every, some, Nod}
 use Rattle.rel_logic.specs.Substitution.{instantiated}
 use Rattle.rel_logic.specs.Sorting.{has_sort, is_well_sorted}
-use Rattle.rules_table.specs.Equal.{same_fml}
+use Rattle.rel_logic.specs.Equal.{same_fml}
 use Rattle.rules_table.specs.Nodes.{Stp, Addition, Outcome, not_mine, bad, kids}
 
 -- ---- arguments
@@ -12,14 +12,41 @@ abbrev pub is_absent : Option ℕ → Bool
 is_absent None = true
 is_absent (Some c) = false
 
--- the step holds this many formula numbers, terms and formulas, and nothing else
+-- the step holds this many formula numbers, terms and formulas, and no integers
+abbrev pub counts : ℕ → ℕ → ℕ → Stp → Bool
+counts nums terms forms s = length s.nums == nums && (length s.terms == terms && (length s.forms == forms && length s.ints == 0))
+
+-- and no class
 abbrev pub holds : ℕ → ℕ → ℕ → Stp → Bool
-holds nums terms forms s =
-    length s.nums == nums && (length s.terms == terms && (length s.forms == forms && (length s.ints == 0 && is_absent s.class)))
+holds nums terms forms s = counts nums terms forms s && is_absent s.class
 
 -- the node's formula with the step's number k
 abbrev pub formula : Nod → Stp → ℕ → Option Fml
 formula n s k = slice_get n.forms (get_or s.nums k 0)
+
+-- the step's term and formula k
+abbrev pub term : Stp → ℕ → Option Trm
+term s k = slice_get s.terms k
+
+abbrev pub form : Stp → ℕ → Option Fml
+form s k = slice_get s.forms k
+
+-- a rule on an argument, where it is there
+abbrev pub on : {A : Type 0} → (A → Outcome) → Option A → Outcome
+on rule None = bad
+on rule (Some x) = rule x
+
+-- a rule on the node's formulas with the step's first two numbers
+abbrev pub on_two_formulas : Nod → Stp → (Fml → Fml → Outcome) → Outcome
+on_two_formulas n s rule = on (λ f. on (λ g. rule f g) (formula n s 1)) (formula n s 0)
+
+-- a rule on the step's first three terms
+abbrev pub on_three_terms : Stp → (Trm → Trm → Trm → Outcome) → Outcome
+on_three_terms s rule = on (λ a. on (λ b. on (λ c. rule a b c) (term s 2)) (term s 1)) (term s 0)
+
+-- a rule behind a test
+abbrev pub only : Bool → Outcome → Outcome
+only b o = if b then o else bad
 
 -- ---- children
 
@@ -120,14 +147,6 @@ cut_formula sorts f = if is_well_sorted sorts f then two_children (f ∷ []) (no
 
 -- ---- the table
 
-abbrev pub on_formula : (Fml → Outcome) → Option Fml → Outcome
-on_formula rule None = bad
-on_formula rule (Some f) = rule f
-
-abbrev pub on_term : (Trm → Fml → Outcome) → Option Trm → Option Fml → Outcome
-on_term rule (Some t) (Some f) = rule t f
-on_term rule _ _ = bad
-
 -- the formula with the step's one number, where the step holds nothing else
 abbrev pub the_formula : Nod → Stp → Option Fml
 the_formula n s = if holds 1 0 0 s then formula n s 0 else None
@@ -138,22 +157,35 @@ formula_by_term n s = if holds 1 1 0 s then formula n s 0 else None
 
 -- the step's one formula
 abbrev pub given_formula : Stp → Option Fml
-given_formula s = if holds 0 0 1 s then slice_get s.forms 0 else None
+given_formula s = if holds 0 0 1 s then form s 0 else None
 
 abbrev pub propositional : Nod → Stp → Outcome
 propositional n s =
     if s.row == 1 then close_row n s else
-    if s.row == 2 then on_formula absurd_row (the_formula n s) else
-    if s.row == 3 then on_formula and_row (the_formula n s) else
-    if s.row == 4 then on_formula nor_row (the_formula n s) else
-    if s.row == 5 then on_formula nimp_row (the_formula n s) else
-    if s.row == 6 then on_formula nn_row (the_formula n s) else
-    if s.row == 7 then on_formula or_row (the_formula n s) else
-    if s.row == 8 then on_formula nand_row (the_formula n s) else
-    if s.row == 9 then on_formula imp_row (the_formula n s) else
-    if s.row == 10 then on_formula (cut_formula n.sorts) (given_formula s) else
-    if s.row == 11 then on_term (all_row n.sorts) (slice_get s.terms 0) (formula_by_term n s) else
-    if s.row == 12 then on_term (nsome_row n.sorts) (slice_get s.terms 0) (formula_by_term n s) else
-    if s.row == 13 then on_formula (some_row (length n.sorts)) (the_formula n s) else
-    if s.row == 14 then on_formula (nall_row (length n.sorts)) (the_formula n s) else
+    if s.row == 2 then on absurd_row (the_formula n s) else
+    if s.row == 3 then on and_row (the_formula n s) else
+    if s.row == 4 then on nor_row (the_formula n s) else
+    if s.row == 5 then on nimp_row (the_formula n s) else
+    if s.row == 6 then on nn_row (the_formula n s) else
+    if s.row == 7 then on or_row (the_formula n s) else
+    if s.row == 8 then on nand_row (the_formula n s) else
+    if s.row == 9 then on imp_row (the_formula n s) else
+    if s.row == 10 then on (cut_formula n.sorts) (given_formula s) else
+    if s.row == 11 then on (λ f. on (λ t. all_row n.sorts t f) (term s 0)) (formula_by_term n s) else
+    if s.row == 12 then on (λ f. on (λ t. nsome_row n.sorts t f) (term s 0)) (formula_by_term n s) else
+    if s.row == 13 then on (some_row (length n.sorts)) (the_formula n s) else
+    if s.row == 14 then on (nall_row (length n.sorts)) (the_formula n s) else
     not_mine
+
+-- ---- the rows without children
+
+abbrev pub is_some_absurd : Option Fml → Bool
+is_some_absurd None = false
+is_some_absurd (Some f) = is_absurd f
+
+-- the step's row has no children, and its needs are met
+abbrev pub closes : Nod → Stp → Bool
+closes n s =
+    if s.row == 1 then holds 2 0 0 s && are_opposite (formula n s 0) (formula n s 1) else
+    if s.row == 2 then is_some_absurd (the_formula n s) else
+    false

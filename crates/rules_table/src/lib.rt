@@ -2,6 +2,7 @@
 //! connectives and quantifiers.
 #![tactic(auto)]
 
+pub mod arguments;
 pub mod propositional;
 pub mod step;
 pub mod theory;

@@ -1,19 +1,20 @@
 //! The rules on connectives and quantifiers.
-ghost use Rattle.std.specs.Prelude.{◌≡◌, ◌&&◌, ◌<◌, ◌^◌, [], IfOk, IsTrue, MatchOption, if◌then◌else◌, length, map, slice_get};
+ghost use Rattle.std.specs.Prelude.{◌≡◌, ◌↔◌, ◌&&◌, ◌<◌, ◌^◌, [], IfOk, IsTrue, MatchOption, if◌then◌else◌, length, map, slice_get};
 ghost use Rattle.rel_logic.specs.View.{sort_of, trm_of, fml_of, node_of};
 ghost use Rattle.rel_logic.specs.Bounds.{free_bound_term, free_bound_of};
 ghost use Rattle.rel_logic.specs.Sorting.{has_sort};
-ghost use Rattle.rules_table.specs.Equal.{same_fml};
+ghost use Rattle.rel_logic.specs.Equal.{same_fml};
 ghost use Rattle.rules_table.specs.Table.{is_absurd, absurd_row, and_row, nor_row, nimp_row, nn_row, or_row, nand_row, imp_row, some_row, nall_row, all_row, nsome_row};
-ghost use Rattle.rules_table.specs.Table.{holds, formula, given_formula, are_opposite, close_row, cut_formula, propositional};
-ghost use Rattle.rules_table.specs.Nodes.{IsSound};
-ghost use Rattle.rules_table.specs.Law.{loses_no_model};
+ghost use Rattle.rules_table.specs.Table.{counts, holds, formula, the_formula, is_some_absurd, closes, given_formula, are_opposite, close_row, cut_formula, propositional};
+ghost use Rattle.rules_table.specs.Nodes.{kids, IsSound};
+ghost use Rattle.rules_table.specs.Law.{loses_no_model, adds_sorted};
 ghost use Rattle.rules_table.specs.View.{step_of, outcome_of};
 
+use crate::arguments::{form, formula_at, holds, same_forms, term, the_formula};
 use crate::step::Step;
-use crate::theory::{Added, Answer, Theory, closing, one_child, two_children};
+use crate::theory::{Added, Answer, Theory, adding, closing, one_child, two_children};
+use crate::{at, rows};
 use rel_list::Memory;
-use rel_logic::comparison::same;
 use rel_logic::fol::Fol;
 use rel_logic::sequent::Node;
 use rel_logic::sorting::{term_sort, well_sorted};
@@ -217,7 +218,7 @@ fn universal(alloc: Global, node: &Node, t: &Term, f: &Fol) -> Result<Answer, Me
         Fol::Every(sort, body) => {
             if has_sort(node, *sort, t) {
                 let at_term = instantiate(body.get(), t)?;
-                one_child(alloc, 11, Added::nothing(alloc).with(at_term)?)
+                adding(alloc, 11, at_term)
             } else {
                 Ok(Answer::Bad)
             }
@@ -260,61 +261,12 @@ fn cut(alloc: Global, node: &Node, f: &Fol) -> Result<Answer, Memory>
     }
 }
 
-/// Whether the step holds this many formula numbers, terms and formulas, and nothing else.
-fn holds(step: &Step, nums: usize, terms: usize, forms: usize) -> bool
-    ensures { result ≡ holds nums terms forms (step_of step.now) }
-{
-    step.nums.len() == nums
-        && step.terms.len() == terms
-        && step.forms.len() == forms
-        && step.ints.is_empty()
-        && step.class.is_none()
-}
-
-#[tactic(auto, using(crate::specs::SameTrees::answers_alike, crate::specs::SameTrees::same_fml_is))]
-fn same_forms(f: &Fol, g: &Fol) -> bool
-    ensures { result ≡ same_fml (fml_of f.now) (fml_of g.now) }
-{
-    same(f, g)
-}
-
 fn are_opposite(f: &Fol, g: &Fol) -> bool
     ensures { result ≡ are_opposite (Some (fml_of f.now)) (Some (fml_of g.now)) }
 {
     match g {
         Fol::Not(h) => same_forms(f, h.get()),
         _ => false,
-    }
-}
-
-/// The node's formula with this number.
-fn formula_at(node: &Node, i: u32) -> Option<&Fol>
-    ensures { let there = slice_get (node_of node.now).forms i in
-        MatchOption result (there ≡ None) (λ f. there ≡ Some (fml_of f.now)) }
-{
-    node.forms.as_slice().get(i as usize)
-}
-
-/// The node's formulas are closed.
-fn sound_formula(node: &Node, i: u32) -> Option<&Fol>
-    requires { IsSound (node_of node.now) }
-    ensures { let there = slice_get (node_of node.now).forms i in
-        MatchOption result (there ≡ None) (λ f. (there ≡ Some (fml_of f.now)) × (free_bound_of (fml_of f.now) ≡ 0)) }
-{
-    formula_at(node, i)
-}
-
-/// The formula with the step's first number, where the step holds so many terms and nothing else.
-fn the_formula<'a>(node: &'a Node, step: &Step, terms: usize) -> Option<&'a Fol>
-    requires { IsSound (node_of node.now) }
-    ensures { let s = step_of step.now in
-        let there = if holds 1 terms 0 s then formula (node_of node.now) s 0 else None in
-        MatchOption result (there ≡ None) (λ f. (there ≡ Some (fml_of f.now)) × (free_bound_of (fml_of f.now) ≡ 0)) }
-{
-    if holds(step, 1, terms, 0) {
-        sound_formula(node, *step.nums.at(0))
-    } else {
-        None
     }
 }
 
@@ -346,48 +298,16 @@ fn close(alloc: Global, node: &Node, step: &Step) -> Answer
     }
 }
 
-fn first_term(step: &Step) -> Option<&Term>
-    ensures { let there = slice_get (step_of step.now).terms 0 in
-        MatchOption result (there ≡ None) (λ t. there ≡ Some (trm_of t.now)) }
-{
-    step.terms.as_slice().get(0)
-}
-
-fn first_form(step: &Step) -> Option<&Fol>
-    ensures { let there = slice_get (step_of step.now).forms 0 in
-        MatchOption result (there ≡ None) (λ f. there ≡ Some (fml_of f.now)) }
-{
-    step.forms.as_slice().get(0)
-}
-
 /// The step's one formula.
 fn given_formula(step: &Step) -> Option<&Fol>
     ensures { let there = given_formula (step_of step.now) in
         MatchOption result (there ≡ None) (λ f. there ≡ Some (fml_of f.now)) }
 {
     if holds(step, 0, 0, 1) {
-        first_form(step)
+        form(step, 0)
     } else {
         None
     }
-}
-
-macro_rules! rows {
-    ($row:expr; $($number:literal => $answer:expr),+ $(,)?) => {
-        match $row {
-            $($number => $answer,)+
-            _ => Ok(Answer::NotMine),
-        }
-    };
-}
-
-macro_rules! at {
-    ($found:expr, $f:ident => $answer:expr) => {
-        match $found {
-            Some($f) => $answer,
-            None => Ok(Answer::Bad),
-        }
-    };
 }
 
 /// What the step comes to by rows 1 to 14.
@@ -398,20 +318,50 @@ fn apply_row(alloc: Global, node: &Node, step: &Step) -> Result<Answer, Memory>
 {
     rows! { step.row;
         1 => Ok(close(alloc, node, step)),
-        2 => at!(the_formula(node, step, 0), f => absurd(alloc, f)),
-        3 => at!(the_formula(node, step, 0), f => conjunction(alloc, f)),
-        4 => at!(the_formula(node, step, 0), f => denied_disjunction(alloc, f)),
-        5 => at!(the_formula(node, step, 0), f => denied_implication(alloc, f)),
-        6 => at!(the_formula(node, step, 0), f => double_negation(alloc, f)),
-        7 => at!(the_formula(node, step, 0), f => disjunction(alloc, f)),
-        8 => at!(the_formula(node, step, 0), f => denied_conjunction(alloc, f)),
-        9 => at!(the_formula(node, step, 0), f => implication(alloc, f)),
-        10 => at!(given_formula(step), f => cut(alloc, node, f)),
-        11 => at!(the_formula(node, step, 1), f => at!(first_term(step), t => universal(alloc, node, t, f))),
-        12 => at!(the_formula(node, step, 1), f => at!(first_term(step), t => denied_existence(alloc, node, t, f))),
-        13 => at!(the_formula(node, step, 0), f => existence(alloc, node, f)),
-        14 => at!(the_formula(node, step, 0), f => denied_universal(alloc, node, f)),
+        2 => at!(f = the_formula(node, step, 0) => absurd(alloc, f)),
+        3 => at!(f = the_formula(node, step, 0) => conjunction(alloc, f)),
+        4 => at!(f = the_formula(node, step, 0) => denied_disjunction(alloc, f)),
+        5 => at!(f = the_formula(node, step, 0) => denied_implication(alloc, f)),
+        6 => at!(f = the_formula(node, step, 0) => double_negation(alloc, f)),
+        7 => at!(f = the_formula(node, step, 0) => disjunction(alloc, f)),
+        8 => at!(f = the_formula(node, step, 0) => denied_conjunction(alloc, f)),
+        9 => at!(f = the_formula(node, step, 0) => implication(alloc, f)),
+        10 => at!(f = given_formula(step) => cut(alloc, node, f)),
+        11 => at!(f = the_formula(node, step, 1), t = term(step, 0) => universal(alloc, node, t, f)),
+        12 => at!(f = the_formula(node, step, 1), t = term(step, 0) => denied_existence(alloc, node, t, f)),
+        13 => at!(f = the_formula(node, step, 0) => existence(alloc, node, f)),
+        14 => at!(f = the_formula(node, step, 0) => denied_universal(alloc, node, f)),
     }
+}
+
+/// Whether the formula that the step names is false, or says that true is false.
+fn closes_by_absurdity(node: &Node, step: &Step) -> bool
+    requires { IsSound (node_of node.now) }
+    ensures { result ≡ is_some_absurd (the_formula (node_of node.now) (step_of step.now)) }
+{
+    match the_formula(node, step, 0) {
+        Some(f) => is_absurd(f),
+        None => false,
+    }
+}
+
+fn meets_closing_row(node: &Node, step: &Step) -> bool
+    requires { IsSound (node_of node.now) }
+    ensures { result ≡ closes (node_of node.now) (step_of step.now) }
+{
+    match step.row {
+        1 => closes_by_opposites(node, step),
+        2 => closes_by_absurdity(node, step),
+        _ => false,
+    }
+}
+
+/// Whether the step closes the node, which takes no memory to tell.
+pub fn closes(node: &Node, step: &Step) -> bool
+    requires { IsSound (node_of node.now) }
+    ensures { IsTrue result ↔ (propositional (node_of node.now) (step_of step.now) ≡ kids []) }
+{
+    meets_closing_row(node, step)
 }
 
 /// Rows 1 to 14: the rules on connectives and quantifiers.
@@ -422,6 +372,8 @@ impl Theory for Propositional {
     ghost outcome = { propositional };
 
     ghost keeps = { loses_no_model };
+
+    ghost sorted = { adds_sorted };
 
     #[tactic(auto, using(crate::proofs::Closed::has_room))]
     fn apply(&self, alloc: Global, node: &Node, step: &Step) -> Result<Answer, Memory> {

@@ -2,8 +2,8 @@
 ghost use Rattle.std.specs.Prelude.{◌≡◌, [], ◌∷◌, length, map, List as Listed, IfOk};
 ghost use Rattle.rel_logic.specs.Syntax.{Nod, no};
 ghost use Rattle.rel_logic.specs.View.{sort_of, fml_of, node_of};
-ghost use Rattle.rules_table.specs.Nodes.{Stp, Addition, with_form, Outcome, kids, IsSound, LosesNoModel};
-ghost use Rattle.rules_table.specs.Table.{adds};
+ghost use Rattle.rules_table.specs.Nodes.{Stp, Addition, with_form, Outcome, kids, IsSound, LosesNoModel, AreSorted};
+ghost use Rattle.rules_table.specs.Table.{adds, one_child};
 ghost use Rattle.rules_table.specs.View.{step_of, addition_of, outcome_of};
 
 use crate::step::Step;
@@ -47,6 +47,9 @@ pub trait Theory {
 
     /// A step loses no model.
     ghost keeps: { (n : Nod) (s : Stp) (added : Listed Addition) → IsSound n → outcome n s ≡ kids added → LosesNoModel n added };
+
+    /// What a step adds is closed and well sorted.
+    ghost sorted: { (n : Nod) (s : Stp) (added : Listed Addition) → IsSound n → outcome n s ≡ kids added → AreSorted n added };
 }
 
 impl Added {
@@ -136,6 +139,13 @@ pub fn one_child(alloc: Global, number: u8, child: Added) -> Result<Answer, Memo
 {
     let row = one_row(alloc, number, child)?;
     Ok(row.answer())
+}
+
+/// A row with one child, to which it adds a formula.
+pub fn adding(alloc: Global, number: u8, f: Fol) -> Result<Answer, Memory>
+    ensures { IfOk result (λ a. outcome_of a ≡ one_child (fml_of f ∷ [])) }
+{
+    one_child(alloc, number, Added::nothing(alloc).with(f)?)
 }
 
 fn two_rows(alloc: Global, number: u8, first: Added, second: Added) -> Result<Row<2>, Memory>

@@ -2,12 +2,12 @@
 
 ghost use Rattle.std.specs.Prelude.{◌<◌, length};
 
-use rel_derive::checker::{Verdict, accepts};
-use rel_derive::step::Step;
 use rel_list::{Boxed, List, Memory};
 use rel_logic::fol::Fol;
 use rel_logic::sequent::Sequent;
 use rel_logic::term::{Sort, Term};
+use rel_straight::checker::{Verdict, accepts};
+use rel_straight::step::Step;
 use std::alloc::Global;
 use std::test::Fail;
 

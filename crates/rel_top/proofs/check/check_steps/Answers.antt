@@ -1,5 +1,5 @@
 use Rattle.rel_lang.specs.View.{bundle_of}
-use Rattle.rel_derive.specs.declared.checker.Verdict.TheVariants.{Accepted, BadStep, OpenNodes}
+use Rattle.rel_straight.specs.declared.checker.Verdict.TheVariants.{Accepted, BadStep, OpenNodes}
 use Rattle.rel_top.proofs.Verdicts.{three_items, steps_answer}
 use Rattle.rel_top.proofs.check.check_steps.Goals as goal
 

@@ -1,8 +1,0 @@
-use Rattle.std.proofs.Common.{take}
-use Rattle.rel_logic.specs.View.{sequent_of}
-use Rattle.rel_derive.specs.Rules.{Runs, first_stack}
-use Rattle.rel_derive.specs.Stack.{stack_of}
-use Rattle.rel_derive.proofs.checker.verdict_of.Given as goal
-
-abbrev pub invariant-loop-number : goal.invariant-loop-number
-invariant-loop-number l = Runs (first_stack (sequent_of l.sequent)) (take l.number l.items) (stack_of l.checker)

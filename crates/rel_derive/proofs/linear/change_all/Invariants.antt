@@ -1,6 +1,0 @@
-use Rattle.rel_derive.specs.Forms.{coefficient_at}
-use Rattle.rel_derive.proofs.Combine.{Progress}
-use Rattle.rel_derive.proofs.linear.change_all.Given as goal
-
-abbrev pub invariant-loop-variable : goal.invariant-loop-variable
-invariant-loop-variable l = Progress l.how (coefficient_at l.initial.a) (coefficient_at l.a) l.c.entries l.variable-iterator

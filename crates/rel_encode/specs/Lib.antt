@@ -1,0 +1,15 @@
+pub mod Numbers
+pub mod Terms
+pub mod Formulas
+pub mod Relations
+pub mod Facts
+pub mod Frame
+pub mod Meaning
+pub mod Laws
+pub mod Binders
+pub mod View
+pub mod Places
+pub mod BindersView
+pub mod Seen
+pub mod Joins
+pub mod Changes

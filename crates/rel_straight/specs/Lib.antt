@@ -1,0 +1,4 @@
+pub mod Linear
+pub mod Forms
+pub mod Rules
+pub mod Stack

@@ -1,0 +1,6 @@
+//! The rules on equality, maps and bijections.
+#![tactic(auto)]
+
+pub mod equality;
+mod rules;
+mod terms;
