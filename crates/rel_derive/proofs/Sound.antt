@@ -16,6 +16,8 @@ use Rattle.rules_table.specs.Table.{propositional}
 use Rattle.rules_table.specs.Law.{loses_no_model, adds_sorted}
 use Rattle.rules_eq.specs.Table.{equality}
 use Rattle.rules_eq.specs.Law as equality_law
+use Rattle.rules_set.specs.Table.{regions}
+use Rattle.rules_set.specs.Law as regions_law
 use Rattle.rel_derive.specs.Rules.{otherwise, outcome_of_all, HasRoom, Moves, Runs, first_node, first_stack, IsAccepted}
 use Rattle.rel_derive.specs.Answers.{IsStuck, IsRoomFor, AreChildren}
 
@@ -32,9 +34,13 @@ either P (kids added) b x y = x
 
 promises : (n : Nod) (s : Stp) → IsSound n → Promises n (outcome_of_all n s)
 promises n s sound =
+    either (Promises n) (otherwise (propositional n s) (equality n s)) (regions n s)
+    (
     either (Promises n) (propositional n s) (equality n s)
     (λ added e. (loses_no_model n s added sound e, adds_sorted n s added sound e))
     (λ added e. (equality_law.loses_no_model n s added sound e, equality_law.adds_sorted n s added sound e))
+    )
+    (λ added e. (regions_law.loses_no_model n s added sound e, regions_law.adds_sorted n s added sound e))
 
 -- ---- lists of nodes
 

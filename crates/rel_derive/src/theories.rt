@@ -8,6 +8,7 @@ ghost use Rattle.rel_derive.specs.Rules.{otherwise, outcome_of_all};
 use rel_list::Memory;
 use rel_logic::sequent::Node;
 use rules_eq::equality::Equality;
+use rules_set::regions::Regions;
 use rules_table::propositional::Propositional;
 use rules_table::step::Step;
 use rules_table::theory::{Answer, Theory};
@@ -36,5 +37,6 @@ pub fn answer_of_all(alloc: Global, node: &Node, step: &Step) -> Result<Answer, 
     ensures { IfOk result (λ a. outcome_of a ≡ outcome_of_all (node_of node.now) (step_of step.now)) }
 {
     let first = ask(Answer::NotMine, &Propositional, alloc, node, step)?;
-    ask(first, &Equality, alloc, node, step)
+    let second = ask(first, &Equality, alloc, node, step)?;
+    ask(second, &Regions, alloc, node, step)
 }

@@ -6,9 +6,7 @@ ghost use Rattle.rel_logic.specs.Sorting.{sort_at};
 ghost use Rattle.rules_table.specs.View.{outcome_of};
 ghost use Rattle.rules_eq.specs.Table.{given, refl_row, readhit_row, past_stored, readmiss_row, extrefl_row, addext_row, addlink_row, has_hole, replace_row, bijone_row, bijclass_row, extpair_row, exttrans_row, addpair_row};
 
-use crate::terms::{
-    both_ways, can_be_linked, equal, extends, implies, linked, of_class, partners, selected, stored,
-};
+use crate::terms::{both_ways, can_be_linked, extends, implies, linked, partners, stored};
 use rel_list::Memory;
 use rel_logic::fol::Fol;
 use rel_logic::sequent::Node;
@@ -16,6 +14,7 @@ use rel_logic::sorting::{body_sorted, term_sort, well_sorted};
 use rel_logic::substitution::instantiate;
 use rel_logic::term::Term;
 use rules_table::arguments::{same_forms, same_terms};
+use rules_table::terms::{equal, of_class, selected};
 use rules_table::theory::{Added, Answer, adding, one_child, two_children};
 use std::alloc::Global;
 

@@ -1,27 +1,14 @@
 //! Terms and formulas of copied parts.
 ghost use Rattle.std.specs.Prelude.{◌≡◌, IfOk};
 ghost use Rattle.rel_logic.specs.View.{trm_of, fml_of};
-ghost use Rattle.rel_logic.specs.Syntax.{ref_sort, bound, sel, sto, link, eq, is, paired, ext, no, and, imp, every};
+ghost use Rattle.rel_logic.specs.Syntax.{ref_sort, bound, sto, link, paired, ext, no, and, imp, every};
 ghost use Rattle.rules_eq.specs.Table.{iff, linkable};
 
 use rel_list::{Boxed, Memory, both};
 use rel_logic::fol::Fol;
 use rel_logic::term::{Sort, Term};
+use rules_table::terms::{boxed, of_class};
 use std::alloc::Global;
-
-pub fn boxed(alloc: Global, t: &Term) -> Result<Boxed<Term>, Memory>
-    ensures { IfOk result (λ b. b ≡ t.now) }
-{
-    Boxed::new(alloc, t.copy()?)
-}
-
-/// The value of a map at `a`.
-pub fn selected(alloc: Global, m: Term, a: &Term) -> Result<Term, Memory>
-    ensures { IfOk result (λ t. trm_of t ≡ sel (trm_of m) (trm_of a.now)) }
-{
-    let (m, a) = both(Boxed::new(alloc, m), boxed(alloc, a))?;
-    Ok(Term::Sel(m, a))
-}
 
 /// The map with `v` at `a`.
 pub fn stored(alloc: Global, m: &Term, a: &Term, v: &Term) -> Result<Term, Memory>
@@ -37,19 +24,6 @@ pub fn linked(alloc: Global, p: &Term, a: &Term, b: &Term) -> Result<Term, Memor
 {
     let (p, (a, b)) = both(boxed(alloc, p), both(boxed(alloc, a), boxed(alloc, b)))?;
     Ok(Term::Link(p, a, b))
-}
-
-pub fn equal(a: &Term, b: &Term) -> Result<Fol, Memory>
-    ensures { IfOk result (λ f. fml_of f ≡ eq (trm_of a.now) (trm_of b.now)) }
-{
-    let (a, b) = both(a.copy(), b.copy())?;
-    Ok(Fol::Eq(a, b))
-}
-
-pub fn of_class(c: u32, a: &Term) -> Result<Fol, Memory>
-    ensures { IfOk result (λ f. fml_of f ≡ is c (trm_of a.now)) }
-{
-    Ok(Fol::Is(c, a.copy()?))
 }
 
 pub fn partners(p: &Term, a: &Term, b: &Term) -> Result<Fol, Memory>

@@ -3,7 +3,7 @@ use Rattle.std.proofs.Common.{◌≡◌, ◌↔◌, ◌⊎◌, inl, inr, ⊎_eli
 use Rattle.std.specs.List.{AllByRecursion}
 use Rattle.std.proofs.lemmas.Option.{slice_get_within, get_or_from_slice_get}
 use Rattle.std.proofs.lemmas.List.{append-nil}
-use Rattle.std.proofs.lemmas.List.Elements.{All-push, All-append, All-from_recursion}
+use Rattle.std.proofs.lemmas.List.Elements.{All-append, All-from_recursion}
 use Rattle.std.proofs.lemmas.Bool.Decides.{Decides-eqb}
 use Rattle.rel_logic.specs.Syntax.{Srt, Trm, var, Fml, Nod}
 use Rattle.rel_logic.specs.Truth.{Carrier, elem, HasSort, Valuation, changed, AgreeOn, FitsSorts, IsTrueAt}
@@ -81,11 +81,11 @@ module _ (n : Nod) where
   known_holds (f ∷ fs) k r m = (k.0.holds r m, known_holds fs k.1 r m)
 
   -- a child without fresh variables whose formulas are true has the node's model
-  added_true : (r : Valuation) → IsModel n r → (fs : List Fml) → AllByRecursion (IsTrueAt r []) fs → ¬ (HasNoModel n r (adds fs))
+  pub added_true : (r : Valuation) → IsModel n r → (fs : List Fml) → AllByRecursion (IsTrueAt r []) fs → ¬ (HasNoModel n r (adds fs))
   added_true r m fs t h =
       h r (λ i below. refl) (subst (λ sorts. FitsSorts sorts r) (sym (append-nil n.sorts)) m.0, All-append (IsTrueAt r []) n.forms fs m.1 (All-from_recursion (IsTrueAt r []) fs t))
 
-  added_sorted : (fs : List Fml) → SortedAll fs → AllByRecursion (λ f. is_well_sorted (n.sorts ++ []) f ≡ true) fs
+  pub added_sorted : (fs : List Fml) → SortedAll fs → AllByRecursion (λ f. is_well_sorted (n.sorts ++ []) f ≡ true) fs
   added_sorted fs h = subst (λ sorts. AllByRecursion (λ f. is_well_sorted sorts f ≡ true) fs) (sym (append-nil n.sorts)) h
 
   -- known formulas are added
@@ -114,11 +114,11 @@ module _ (n : Nod) (s : Srt) (v : Carrier s) (r : Valuation) where
   abbrev pub with_fresh : Valuation
   with_fresh = changed r (length n.sorts) (elem s v)
 
-  agrees : AgreeOn n.sorts r with_fresh
+  pub agrees : AgreeOn n.sorts r with_fresh
   agrees i below =
       sym (ap (λ b. if b then elem s v else r i) (is_false (i == length n.sorts) (Decides-eqb i (length n.sorts)) (λ e. omega (arith, below, e))))
 
-  at_fresh : with_fresh (length n.sorts) ≡ elem s v
+  pub at_fresh : with_fresh (length n.sorts) ≡ elem s v
   at_fresh = ap (λ b. if b then elem s v else r (length n.sorts)) ((Decides-eqb (length n.sorts) (length n.sorts)).1 refl)
 
   fits : IsModel n r → FitsSorts (n.sorts ++ s ∷ []) with_fresh
@@ -130,8 +130,9 @@ module _ (n : Nod) (s : Srt) (v : Carrier s) (r : Valuation) where
   still : IsSound n → IsModel n r → All (IsTrueAt with_fresh []) n.forms
   still sound m k d below = subst (λ P. P) (truth_depends n.sorts r with_fresh agrees (get_or n.forms k d) (sound.sorted k d below)) (m.1 k d below)
 
-  fresh_added : IsSound n → IsModel n r → (f : Fml) → IsTrueAt with_fresh [] f → ¬ (HasNoModel n r (record { fresh = s ∷ []; forms = f ∷ [] }))
-  fresh_added sound m f t h = h with_fresh agrees (fits m, All-push (IsTrueAt with_fresh []) n.forms f (still sound m) t)
+  -- a child whose formulas are true at some value of its fresh variable has a model
+  pub fresh_true : IsSound n → IsModel n r → (fs : List Fml) → AllByRecursion (IsTrueAt with_fresh []) fs → ¬ (HasNoModel n r (record { fresh = s ∷ []; forms = fs }))
+  fresh_true sound m fs t h = h with_fresh agrees (fits m, All-append (IsTrueAt with_fresh []) n.forms fs (still sound m) (All-from_recursion (IsTrueAt with_fresh []) fs t))
 
   pub body_truth : (g : Fml) → is_sorted n.sorts (s ∷ []) g ≡ true → IsTrueAt r (elem s v ∷ []) g ↔ IsTrueAt with_fresh [] (instantiated (var (length n.sorts)) g)
   body_truth g e =
@@ -144,7 +145,7 @@ module _ (n : Nod) (s : Srt) (v : Carrier s) (r : Valuation) where
 -- some value of the fresh variable makes the formula true
 pub fresh_kept : (n : Nod) → IsSound n → (s : Srt) (f : Fml) → is_well_sorted (n.sorts ++ s ∷ []) f ≡ true
     → ((r : Valuation) → IsModel n r → ¬ ((v : Carrier s) → ¬ (IsTrueAt (with_fresh n s v r) [] f))) → IsKept n (fresh_child s f)
-fresh_kept n sound s f sorted some = (((sorted, tt), tt), λ r h m. some r m (λ v t. fresh_added n s v r sound m f t h.0))
+fresh_kept n sound s f sorted some = (((sorted, tt), tt), λ r h m. some r m (λ v t. fresh_true n s v r sound m (f ∷ []) (t, tt) h.0))
 
 -- ---- a term put for a bound number
 

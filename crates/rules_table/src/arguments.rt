@@ -1,7 +1,8 @@
 //! The arguments of a step, and tests of them.
-ghost use Rattle.std.specs.Prelude.{◌≡◌, ◌<◌, None, MatchOption, if◌then◌else◌, length, slice_get};
-ghost use Rattle.rel_logic.specs.View.{trm_of, fml_of, node_of};
-ghost use Rattle.rel_logic.specs.Bounds.{free_bound_of};
+ghost use Rattle.std.specs.Prelude.{◌≡◌, ◌<◌, None, [], IsTrue, MatchOption, if◌then◌else◌, length, map, slice_get};
+ghost use Rattle.rel_logic.specs.View.{sort_of, trm_of, fml_of, node_of};
+ghost use Rattle.rel_logic.specs.Bounds.{free_bound_term, free_bound_of};
+ghost use Rattle.rel_logic.specs.Sorting.{has_sort};
 ghost use Rattle.rel_logic.specs.Equal.{same_trm, same_fml};
 ghost use Rattle.rules_table.specs.Table.{counts, holds, formula, term, form};
 ghost use Rattle.rules_table.specs.Nodes.{IsSound};
@@ -11,7 +12,8 @@ use crate::step::Step;
 use rel_logic::comparison::{same, same_term};
 use rel_logic::fol::Fol;
 use rel_logic::sequent::Node;
-use rel_logic::term::Term;
+use rel_logic::sorting::term_sort;
+use rel_logic::term::{Sort, Term, same_sort};
 
 /// Whether the step holds this many formula numbers, terms and formulas, and no integers.
 pub fn counts(step: &Step, nums: usize, terms: usize, forms: usize) -> bool
@@ -101,6 +103,17 @@ pub fn same_terms(a: &Term, b: &Term) -> bool
     ensures { result ≡ same_trm (trm_of a.now) (trm_of b.now) }
 {
     same_term(a, b)
+}
+
+/// Whether the closed term has the sort over the node's variables.
+pub fn has_sort(node: &Node, sort: Sort, t: &Term) -> bool
+    ensures exact { result ≡ has_sort (map sort_of node.now.sorts) [] (sort_of sort) (trm_of t.now) }
+    ensures closed { IsTrue result → free_bound_term (trm_of t.now) ≡ 0 }
+{
+    match term_sort(t, node.sorts.as_slice()) {
+        Some(s) => same_sort(sort, s),
+        None => false,
+    }
 }
 
 /// The answer of the row.

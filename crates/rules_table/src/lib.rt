@@ -5,4 +5,5 @@
 pub mod arguments;
 pub mod propositional;
 pub mod step;
+pub mod terms;
 pub mod theory;

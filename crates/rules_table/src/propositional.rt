@@ -1,8 +1,7 @@
 //! The rules on connectives and quantifiers.
 ghost use Rattle.std.specs.Prelude.{◌≡◌, ◌↔◌, ◌&&◌, ◌<◌, ◌^◌, [], IfOk, IsTrue, MatchOption, if◌then◌else◌, length, map, slice_get};
 ghost use Rattle.rel_logic.specs.View.{sort_of, trm_of, fml_of, node_of};
-ghost use Rattle.rel_logic.specs.Bounds.{free_bound_term, free_bound_of};
-ghost use Rattle.rel_logic.specs.Sorting.{has_sort};
+ghost use Rattle.rel_logic.specs.Bounds.{free_bound_of};
 ghost use Rattle.rel_logic.specs.Equal.{same_fml};
 ghost use Rattle.rules_table.specs.Table.{is_absurd, absurd_row, and_row, nor_row, nimp_row, nn_row, or_row, nand_row, imp_row, some_row, nall_row, all_row, nsome_row};
 ghost use Rattle.rules_table.specs.Table.{counts, holds, formula, the_formula, is_some_absurd, closes, given_formula, are_opposite, close_row, cut_formula, propositional};
@@ -10,16 +9,16 @@ ghost use Rattle.rules_table.specs.Nodes.{kids, IsSound};
 ghost use Rattle.rules_table.specs.Law.{loses_no_model, adds_sorted};
 ghost use Rattle.rules_table.specs.View.{step_of, outcome_of};
 
-use crate::arguments::{form, formula_at, holds, same_forms, term, the_formula};
+use crate::arguments::{form, formula_at, has_sort, holds, same_forms, term, the_formula};
 use crate::step::Step;
 use crate::theory::{Added, Answer, Theory, adding, closing, one_child, two_children};
 use crate::{at, rows};
 use rel_list::Memory;
 use rel_logic::fol::Fol;
 use rel_logic::sequent::Node;
-use rel_logic::sorting::{term_sort, well_sorted};
+use rel_logic::sorting::well_sorted;
 use rel_logic::substitution::instantiate;
-use rel_logic::term::{Sort, Term, same_sort};
+use rel_logic::term::Term;
 use std::alloc::Global;
 
 /// Whether the formula is false, or says that true is false.
@@ -195,17 +194,6 @@ fn denied_universal(alloc: Global, node: &Node, f: &Fol) -> Result<Answer, Memor
             _ => Ok(Answer::Bad),
         },
         _ => Ok(Answer::Bad),
-    }
-}
-
-/// Whether the closed term has the sort over the node's variables.
-fn has_sort(node: &Node, sort: Sort, t: &Term) -> bool
-    ensures exact { result ≡ has_sort (map sort_of node.now.sorts) [] (sort_of sort) (trm_of t.now) }
-    ensures closed { IsTrue result → free_bound_term (trm_of t.now) ≡ 0 }
-{
-    match term_sort(t, node.sorts.as_slice()) {
-        Some(s) => same_sort(sort, s),
-        None => false,
     }
 }
 

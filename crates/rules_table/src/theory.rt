@@ -169,3 +169,33 @@ pub fn two_children(
     let row = two_rows(alloc, number, first, second)?;
     Ok(row.answer())
 }
+
+fn three_rows(
+    alloc: Global,
+    number: u8,
+    first: Added,
+    second: Added,
+    third: Added,
+) -> Result<Row<3>, Memory>
+    ensures { IfOk result (λ row. row.kids ≡ first ∷ second ∷ third ∷ []) }
+{
+    let mut kids = List::new(alloc);
+    kids.push(first)?;
+    kids.push(second)?;
+    kids.push(third)?;
+    Ok(Row { number, kids })
+}
+
+/// A row with three children.
+pub fn three_children(
+    alloc: Global,
+    number: u8,
+    first: Added,
+    second: Added,
+    third: Added,
+) -> Result<Answer, Memory>
+    ensures { IfOk result (λ a. outcome_of a ≡ kids (addition_of first ∷ addition_of second ∷ addition_of third ∷ [])) }
+{
+    let row = three_rows(alloc, number, first, second, third)?;
+    Ok(row.answer())
+}
