@@ -3,9 +3,11 @@
 use rel_decls::parse_bundle;
 use rel_encode::store::{PairStore, Scope, Store};
 use rel_encode::{basics, fol_of, frame_formula, grow, inside, linkable, rel_of, term_of};
-use rel_lang::bundle::Item;
+use rel_lang::bundle::{Effect, Item};
 use rel_lang::command::{Command, Form};
 use rel_lang::expr::Expr;
+use rel_lang::formula::Formula;
+use rel_lang::relation::RelFormula;
 use rel_lang::typed::Typed;
 use rel_list::{Boxed, List, Memory};
 use rel_logic::fol::Fol;
@@ -47,8 +49,7 @@ fn variables(alloc: Global, first: u32, count: u32) -> Result<List<Term>, Memory
     Ok(terms)
 }
 
-/// The store of six variables in a row.
-fn store(alloc: Global, first: u32) -> Result<Store, Memory> {
+fn bare_store(alloc: Global, first: u32) -> Result<Store, Memory> {
     Ok(Store {
         vars: variables(alloc, first, 2)?,
         maps: variables(alloc, first.saturating_add(2), 3)?,
@@ -56,28 +57,43 @@ fn store(alloc: Global, first: u32) -> Result<Store, Memory> {
     })
 }
 
+/// The store of six variables in a row. Boxed, as are the others.
+fn store(alloc: Global, first: u32) -> Result<Boxed<Store>, Memory> {
+    Boxed::new(alloc, bare_store(alloc, first)?)
+}
+
 /// Two sides of six variables each, and a bijection.
-fn stores(alloc: Global) -> Result<PairStore, Memory> {
+fn bare_stores(alloc: Global) -> Result<PairStore, Memory> {
     Ok(PairStore {
-        left: store(alloc, 0)?,
-        right: store(alloc, 6)?,
-        left_entry: store(alloc, 0)?,
-        right_entry: store(alloc, 6)?,
+        left: bare_store(alloc, 0)?,
+        right: bare_store(alloc, 6)?,
+        left_entry: bare_store(alloc, 0)?,
+        right_entry: bare_store(alloc, 6)?,
         bij: Term::Var(12),
     })
 }
 
-/// The store behind one from 0 on, of which only the first map has changed.
-fn changed(alloc: Global) -> Result<Store, Memory> {
+fn stores(alloc: Global) -> Result<Boxed<PairStore>, Memory> {
+    Boxed::new(alloc, bare_stores(alloc)?)
+}
+
+fn changed_maps(alloc: Global) -> Result<List<Term>, Memory> {
     let mut maps = List::new(alloc);
     maps.push(Term::Var(8))?;
     maps.push(Term::Var(3))?;
     maps.push(Term::Var(4))?;
-    Ok(Store {
+    Ok(maps)
+}
+
+/// The store behind one from 0 on, of which only the first map has changed.
+fn changed(alloc: Global) -> Result<Boxed<Store>, Memory> {
+    let maps = changed_maps(alloc)?;
+    let store = Store {
         vars: variables(alloc, 6, 2)?,
         maps,
         alloc: Term::Var(9),
-    })
+    };
+    Boxed::new(alloc, store)
 }
 
 /// A side with one variable.
@@ -89,8 +105,7 @@ fn one_variable(alloc: Global, variable: u32, allocated: u32) -> Result<Store, M
     })
 }
 
-/// Two such sides, and a bijection.
-fn two_variables(alloc: Global, left: u32, right: u32) -> Result<PairStore, Memory> {
+fn bare_pair(alloc: Global, left: u32, right: u32) -> Result<PairStore, Memory> {
     Ok(PairStore {
         left: one_variable(alloc, left, 1)?,
         right: one_variable(alloc, right, 3)?,
@@ -100,9 +115,50 @@ fn two_variables(alloc: Global, left: u32, right: u32) -> Result<PairStore, Memo
     })
 }
 
+/// Two such sides, and a bijection.
+fn two_variables(alloc: Global, left: u32, right: u32) -> Result<Boxed<PairStore>, Memory> {
+    Boxed::new(alloc, bare_pair(alloc, left, right)?)
+}
+
 fn reads(alloc: Global, f: &Fol, expected: &str) -> Result<bool, Memory> {
     let text = fol_text(alloc, f)?;
     Ok(text.as_slice() == expected.as_bytes())
+}
+
+fn formula_text(
+    alloc: Global,
+    typed: &Typed,
+    scope: &Scope,
+    p: &Formula,
+    entry: &Store,
+    present: &Store,
+) -> Result<Vec<u8>, Memory> {
+    let f = fol_of(alloc, typed, scope, p, entry, present)?;
+    fol_text(alloc, &f)
+}
+
+fn relation_text(
+    alloc: Global,
+    typed: &Typed,
+    left: &Scope,
+    right: &Scope,
+    r: &RelFormula,
+    stores: &PairStore,
+) -> Result<Vec<u8>, Memory> {
+    let f = rel_of(alloc, typed, left, right, r, stores)?;
+    fol_text(alloc, &f)
+}
+
+fn expression_text(
+    alloc: Global,
+    typed: &Typed,
+    scope: &Scope,
+    e: &Expr,
+    entry: &Store,
+    present: &Store,
+) -> Result<Vec<u8>, Memory> {
+    let t = term_of(alloc, typed, scope, e, entry, present)?;
+    term_text(alloc, &t)
 }
 
 fn precondition_reads(alloc: Global, typed: &Typed, expected: &str) -> Result<bool, Memory> {
@@ -113,9 +169,10 @@ fn precondition_reads(alloc: Global, typed: &Typed, expected: &str) -> Result<bo
         return Ok(false);
     };
     let entry = store(alloc, 0)?;
+    let entry = entry.get();
     let formula = &procedure.spec.needs.formula;
-    let f = fol_of(alloc, typed, &unit.globals, formula, &entry, &entry)?;
-    reads(alloc, &f, expected)
+    let text = formula_text(alloc, typed, &unit.globals, formula, entry, entry)?;
+    Ok(text.as_slice() == expected.as_bytes())
 }
 
 fn postcondition_reads(alloc: Global, typed: &Typed, expected: &str) -> Result<bool, Memory> {
@@ -128,8 +185,15 @@ fn postcondition_reads(alloc: Global, typed: &Typed, expected: &str) -> Result<b
     let entry = store(alloc, 0)?;
     let present = store(alloc, 6)?;
     let formula = &procedure.spec.gives.formula;
-    let f = fol_of(alloc, typed, &unit.globals, formula, &entry, &present)?;
-    reads(alloc, &f, expected)
+    let text = formula_text(
+        alloc,
+        typed,
+        &unit.globals,
+        formula,
+        entry.get(),
+        present.get(),
+    )?;
+    Ok(text.as_slice() == expected.as_bytes())
 }
 
 fn relation_reads(alloc: Global, typed: &Typed, expected: &str) -> Result<bool, Memory> {
@@ -138,15 +202,21 @@ fn relation_reads(alloc: Global, typed: &Typed, expected: &str) -> Result<bool, 
     };
     let stores = stores(alloc)?;
     let scope: &Scope = &unit.globals;
-    let f = rel_of(
-        alloc,
-        typed,
-        scope,
-        scope,
-        &judgement.needs.formula,
-        &stores,
-    )?;
-    reads(alloc, &f, expected)
+    let needs = &judgement.needs.formula;
+    let text = relation_text(alloc, typed, scope, scope, needs, stores.get())?;
+    Ok(text.as_slice() == expected.as_bytes())
+}
+
+fn frame_text(
+    alloc: Global,
+    typed: &Typed,
+    scope: &Scope,
+    writes: &List<Effect>,
+) -> Result<Vec<u8>, Memory> {
+    let before = store(alloc, 0)?;
+    let after = changed(alloc)?;
+    let f = frame_formula(alloc, typed, scope, 2, writes, before.get(), after.get())?;
+    fol_text(alloc, &f)
 }
 
 fn frame_reads(alloc: Global, typed: &Typed, expected: &str) -> Result<bool, Memory> {
@@ -156,18 +226,20 @@ fn frame_reads(alloc: Global, typed: &Typed, expected: &str) -> Result<bool, Mem
     let [procedure] = unit.procs.as_slice() else {
         return Ok(false);
     };
-    let before = store(alloc, 0)?;
-    let after = changed(alloc)?;
-    let writes = &procedure.spec.writes;
-    let f = frame_formula(alloc, typed, &unit.globals, 2, writes, &before, &after)?;
-    reads(alloc, &f, expected)
+    let text = frame_text(alloc, typed, &unit.globals, &procedure.spec.writes)?;
+    Ok(text.as_slice() == expected.as_bytes())
+}
+
+fn facts(alloc: Global, typed: &Typed, scope: &Scope) -> Result<List<Fol>, Memory> {
+    let present = store(alloc, 0)?;
+    basics(alloc, typed, scope, present.get())
 }
 
 fn facts_read(alloc: Global, typed: &Typed, expected: [&str; 4]) -> Result<bool, Memory> {
     let [_, Item::UnitItem(unit), _] = typed.bundle.items.as_slice() else {
         return Ok(false);
     };
-    let facts = basics(alloc, typed, &unit.globals, &store(alloc, 0)?)?;
+    let facts = facts(alloc, typed, &unit.globals)?;
     let mut same = facts.len() == 4;
     for (f, text) in facts.as_slice().iter().zip(expected.as_slice()) {
         same = same && reads(alloc, f, text)?;
@@ -175,14 +247,41 @@ fn facts_read(alloc: Global, typed: &Typed, expected: [&str; 4]) -> Result<bool,
     Ok(same)
 }
 
-/// The precondition at the start, what the left program assigns, and the postcondition at the end.
-fn straight_read(alloc: Global, typed: &Typed, expected: [&str; 3]) -> Result<bool, Memory> {
+/// Whether the judgement's precondition at the start and its postcondition at the end read so.
+fn judgement_reads(alloc: Global, typed: &Typed, needs: &str, gives: &str) -> Result<bool, Memory> {
     let [
         Item::UnitItem(left),
         Item::UnitItem(right),
         Item::Judge(judgement),
     ] = typed.bundle.items.as_slice()
     else {
+        return Ok(false);
+    };
+    let (left, right): (&Scope, &Scope) = (&left.globals, &right.globals);
+    let start = two_variables(alloc, 0, 2)?;
+    let first = relation_text(
+        alloc,
+        typed,
+        left,
+        right,
+        &judgement.needs.formula,
+        start.get(),
+    )?;
+    let end = two_variables(alloc, 6, 7)?;
+    let last = relation_text(
+        alloc,
+        typed,
+        left,
+        right,
+        &judgement.gives.formula,
+        end.get(),
+    )?;
+    Ok(first.as_slice() == needs.as_bytes() && last.as_slice() == gives.as_bytes())
+}
+
+/// Whether what the left program assigns reads so.
+fn assigned_reads(alloc: Global, typed: &Typed, expected: &str) -> Result<bool, Memory> {
+    let [Item::UnitItem(left), _, _] = typed.bundle.items.as_slice() else {
         return Ok(false);
     };
     let [procedure] = left.procs.as_slice() else {
@@ -197,28 +296,21 @@ fn straight_read(alloc: Global, typed: &Typed, expected: [&str; 3]) -> Result<bo
     else {
         return Ok(false);
     };
-    let start = two_variables(alloc, 0, 2)?;
-    let end = two_variables(alloc, 6, 7)?;
-    let needs = &judgement.needs.formula;
-    let needs = rel_of(alloc, typed, &left.globals, &right.globals, needs, &start)?;
-    let gives = &judgement.gives.formula;
-    let gives = rel_of(alloc, typed, &left.globals, &right.globals, gives, &end)?;
-    let sum = term_of(alloc, typed, &left.globals, sum, &start.left, &start.left)?;
-    let [first, assigned, last] = expected;
-    let same = term_text(alloc, &sum)?.as_slice() == assigned.as_bytes();
-    Ok(same && reads(alloc, &needs, first)? && reads(alloc, &gives, last)?)
+    let stores = two_variables(alloc, 0, 2)?;
+    let entry = &stores.get().left;
+    let text = expression_text(alloc, typed, &left.globals, sum, entry, entry)?;
+    Ok(text.as_slice() == expected.as_bytes())
 }
 
 #[test]
 fn straight_programs_are_encoded(rt: HostRuntime) -> Result<(), Fail> {
     let alloc = rt.alloc();
     let typed = typed(alloc, STRAIGHT)?;
-    let expected = [
-        r#"["eq",["v",0],["v",2]]"#,
-        r#"["add",["v",0],["int","1"]]"#,
-        r#"["eq",["v",6],["v",7]]"#,
-    ];
-    assert!(rt; straight_read(alloc, typed.get(), expected)?);
+    let needs = r#"["eq",["v",0],["v",2]]"#;
+    let gives = r#"["eq",["v",6],["v",7]]"#;
+    assert!(rt; judgement_reads(alloc, typed.get(), needs, gives)?);
+    let assigned = r#"["add",["v",0],["int","1"]]"#;
+    assert!(rt; assigned_reads(alloc, typed.get(), assigned)?);
     Ok(())
 }
 
@@ -286,22 +378,44 @@ fn pairs_links_and_growth_are_encoded(rt: HostRuntime) -> Result<(), Fail> {
     Ok(())
 }
 
+/// A store of no variables and no fields.
+fn bare_place(alloc: Global, allocated: Term) -> Result<Boxed<Store>, Memory> {
+    let store = Store {
+        vars: List::new(alloc),
+        maps: List::new(alloc),
+        alloc: allocated,
+    };
+    Boxed::new(alloc, store)
+}
+
+fn in_no_scope_reads(
+    alloc: Global,
+    typed: &Typed,
+    e: &Boxed<Expr>,
+    expected: &str,
+) -> Result<bool, Memory> {
+    let scope = List::new(alloc);
+    let entry = bare_place(alloc, Term::Var(5))?;
+    let present = bare_place(alloc, Term::Empty)?;
+    let text = expression_text(alloc, typed, &scope, e.get(), entry.get(), present.get())?;
+    Ok(text.as_slice() == expected.as_bytes())
+}
+
+fn old_alloc(alloc: Global) -> Result<Boxed<Expr>, Memory> {
+    Boxed::new(alloc, Expr::Old(Boxed::new(alloc, Expr::Alloc)?))
+}
+
+fn product(alloc: Global) -> Result<Boxed<Expr>, Memory> {
+    Boxed::new(alloc, Expr::Mul(-3, Boxed::new(alloc, Expr::Num(5))?))
+}
+
 #[test]
 fn an_expression_is_encoded(rt: HostRuntime) -> Result<(), Fail> {
     let alloc = rt.alloc();
     let typed = typed(alloc, BUNDLE)?;
-    let scope = List::new(alloc);
-    let store = store(alloc, 0)?;
-    let old = Expr::Old(Boxed::new(alloc, Expr::Alloc)?);
-    let sum = Expr::Mul(-3, Boxed::new(alloc, Expr::Num(5))?);
-    let present = Store {
-        vars: List::new(alloc),
-        maps: List::new(alloc),
-        alloc: Term::Empty,
-    };
-    let at_entry = term_of(alloc, typed.get(), &scope, &old, &store, &present)?;
-    assert!(rt; term_text(alloc, &at_entry)?.as_slice() == r#"["v",5]"#.as_bytes());
-    let product = term_of(alloc, typed.get(), &scope, &sum, &store, &present)?;
-    assert!(rt; term_text(alloc, &product)?.as_slice() == r#"["mul","-3",["int","5"]]"#.as_bytes());
+    let old = old_alloc(alloc)?;
+    assert!(rt; in_no_scope_reads(alloc, typed.get(), &old, r#"["v",5]"#)?);
+    let product = product(alloc)?;
+    assert!(rt; in_no_scope_reads(alloc, typed.get(), &product, r#"["mul","-3",["int","5"]]"#)?);
     Ok(())
 }
