@@ -125,28 +125,26 @@ fn reads(alloc: Global, f: &Fol, expected: &str) -> Result<bool, Memory> {
     Ok(text.as_slice() == expected.as_bytes())
 }
 
-fn formula_text(
+fn formula(
     alloc: Global,
     typed: &Typed,
     scope: &Scope,
     p: &Formula,
     entry: &Store,
     present: &Store,
-) -> Result<Vec<u8>, Memory> {
-    let f = fol_of(alloc, typed, scope, p, entry, present)?;
-    fol_text(alloc, &f)
+) -> Result<Boxed<Fol>, Memory> {
+    Boxed::new(alloc, fol_of(alloc, typed, scope, p, entry, present)?)
 }
 
-fn relation_text(
+fn relation(
     alloc: Global,
     typed: &Typed,
     left: &Scope,
     right: &Scope,
     r: &RelFormula,
     stores: &PairStore,
-) -> Result<Vec<u8>, Memory> {
-    let f = rel_of(alloc, typed, left, right, r, stores)?;
-    fol_text(alloc, &f)
+) -> Result<Boxed<Fol>, Memory> {
+    Boxed::new(alloc, rel_of(alloc, typed, left, right, r, stores)?)
 }
 
 fn expression_text(
@@ -170,9 +168,9 @@ fn precondition_reads(alloc: Global, typed: &Typed, expected: &str) -> Result<bo
     };
     let entry = store(alloc, 0)?;
     let entry = entry.get();
-    let formula = &procedure.spec.needs.formula;
-    let text = formula_text(alloc, typed, &unit.globals, formula, entry, entry)?;
-    Ok(text.as_slice() == expected.as_bytes())
+    let needs = &procedure.spec.needs.formula;
+    let f = formula(alloc, typed, &unit.globals, needs, entry, entry)?;
+    reads(alloc, f.get(), expected)
 }
 
 fn postcondition_reads(alloc: Global, typed: &Typed, expected: &str) -> Result<bool, Memory> {
@@ -184,16 +182,16 @@ fn postcondition_reads(alloc: Global, typed: &Typed, expected: &str) -> Result<b
     };
     let entry = store(alloc, 0)?;
     let present = store(alloc, 6)?;
-    let formula = &procedure.spec.gives.formula;
-    let text = formula_text(
+    let gives = &procedure.spec.gives.formula;
+    let f = formula(
         alloc,
         typed,
         &unit.globals,
-        formula,
+        gives,
         entry.get(),
         present.get(),
     )?;
-    Ok(text.as_slice() == expected.as_bytes())
+    reads(alloc, f.get(), expected)
 }
 
 fn relation_reads(alloc: Global, typed: &Typed, expected: &str) -> Result<bool, Memory> {
@@ -203,20 +201,22 @@ fn relation_reads(alloc: Global, typed: &Typed, expected: &str) -> Result<bool, 
     let stores = stores(alloc)?;
     let scope: &Scope = &unit.globals;
     let needs = &judgement.needs.formula;
-    let text = relation_text(alloc, typed, scope, scope, needs, stores.get())?;
-    Ok(text.as_slice() == expected.as_bytes())
+    let f = relation(alloc, typed, scope, scope, needs, stores.get())?;
+    reads(alloc, f.get(), expected)
 }
 
-fn frame_text(
+fn frame(
     alloc: Global,
     typed: &Typed,
     scope: &Scope,
     writes: &List<Effect>,
-) -> Result<Vec<u8>, Memory> {
+) -> Result<Boxed<Fol>, Memory> {
     let before = store(alloc, 0)?;
     let after = changed(alloc)?;
-    let f = frame_formula(alloc, typed, scope, 2, writes, before.get(), after.get())?;
-    fol_text(alloc, &f)
+    Boxed::new(
+        alloc,
+        frame_formula(alloc, typed, scope, 2, writes, before.get(), after.get())?,
+    )
 }
 
 fn frame_reads(alloc: Global, typed: &Typed, expected: &str) -> Result<bool, Memory> {
@@ -226,8 +226,8 @@ fn frame_reads(alloc: Global, typed: &Typed, expected: &str) -> Result<bool, Mem
     let [procedure] = unit.procs.as_slice() else {
         return Ok(false);
     };
-    let text = frame_text(alloc, typed, &unit.globals, &procedure.spec.writes)?;
-    Ok(text.as_slice() == expected.as_bytes())
+    let f = frame(alloc, typed, &unit.globals, &procedure.spec.writes)?;
+    reads(alloc, f.get(), expected)
 }
 
 fn facts(alloc: Global, typed: &Typed, scope: &Scope) -> Result<List<Fol>, Memory> {
@@ -259,7 +259,7 @@ fn judgement_reads(alloc: Global, typed: &Typed, needs: &str, gives: &str) -> Re
     };
     let (left, right): (&Scope, &Scope) = (&left.globals, &right.globals);
     let start = two_variables(alloc, 0, 2)?;
-    let first = relation_text(
+    let first = relation(
         alloc,
         typed,
         left,
@@ -268,7 +268,7 @@ fn judgement_reads(alloc: Global, typed: &Typed, needs: &str, gives: &str) -> Re
         start.get(),
     )?;
     let end = two_variables(alloc, 6, 7)?;
-    let last = relation_text(
+    let last = relation(
         alloc,
         typed,
         left,
@@ -276,7 +276,7 @@ fn judgement_reads(alloc: Global, typed: &Typed, needs: &str, gives: &str) -> Re
         &judgement.gives.formula,
         end.get(),
     )?;
-    Ok(first.as_slice() == needs.as_bytes() && last.as_slice() == gives.as_bytes())
+    Ok(reads(alloc, first.get(), needs)? && reads(alloc, last.get(), gives)?)
 }
 
 /// Whether what the left program assigns reads so.
@@ -346,35 +346,36 @@ fn facts_and_frames_are_encoded(rt: HostRuntime) -> Result<(), Fail> {
     Ok(())
 }
 
+fn pairs_inside(alloc: Global) -> Result<Boxed<Fol>, Memory> {
+    Boxed::new(
+        alloc,
+        inside(alloc, &Term::Var(4), &Term::Var(1), &Term::Var(3))?,
+    )
+}
+
+fn link(alloc: Global) -> Result<Boxed<Fol>, Memory> {
+    Boxed::new(
+        alloc,
+        linkable(alloc, 7, &Term::Var(4), &Term::Var(5), &Term::Null)?,
+    )
+}
+
+fn growth(alloc: Global, before: u32, after: u32) -> Result<Boxed<Fol>, Memory> {
+    Boxed::new(alloc, grow(alloc, &Term::Var(before), &Term::Var(after))?)
+}
+
 #[test]
 fn pairs_links_and_growth_are_encoded(rt: HostRuntime) -> Result<(), Fail> {
     let alloc = rt.alloc();
-    let pairs = inside(alloc, &Term::Var(4), &Term::Var(1), &Term::Var(3))?;
-    assert!(rt;
-        reads(
-            alloc,
-            &pairs,
-            r#"["all","Ref",["all","Ref",["imp",["pair",["v",4],["b",1],["b",0]],["and",["in",["b",1],["v",1]],["in",["b",0],["v",3]]]]]]"#
-        )?
-    );
-    let link = linkable(alloc, 7, &Term::Var(4), &Term::Var(5), &Term::Null)?;
-    assert!(rt;
-        reads(
-            alloc,
-            &link,
-            r#"["and",["is",7,["v",5]],["and",["is",7,["null"]],["and",["all","Ref",["not",["pair",["v",4],["v",5],["b",0]]]],["all","Ref",["not",["pair",["v",4],["b",0],["null"]]]]]]]"#
-        )?
-    );
-    let grown = grow(alloc, &Term::Var(1), &Term::Var(3))?;
-    assert!(rt;
-        reads(
-            alloc,
-            &grown,
-            r#"["all","Ref",["imp",["in",["b",0],["v",1]],["in",["b",0],["v",3]]]]"#
-        )?
-    );
-    let same = grow(alloc, &Term::Var(1), &Term::Var(1))?;
-    assert!(rt; reads(alloc, &same, r#"["true"]"#)?);
+    let expected =
+        r#"["all","Ref",["all","Ref",["imp",["pair",["v",4],["b",1],["b",0]],["and",["in",["b",1],["v",1]],["in",["b",0],["v",3]]]]]]"#;
+    assert!(rt; reads(alloc, pairs_inside(alloc)?.get(), expected)?);
+    let expected =
+        r#"["and",["is",7,["v",5]],["and",["is",7,["null"]],["and",["all","Ref",["not",["pair",["v",4],["v",5],["b",0]]]],["all","Ref",["not",["pair",["v",4],["b",0],["null"]]]]]]]"#;
+    assert!(rt; reads(alloc, link(alloc)?.get(), expected)?);
+    let expected = r#"["all","Ref",["imp",["in",["b",0],["v",1]],["in",["b",0],["v",3]]]]"#;
+    assert!(rt; reads(alloc, growth(alloc, 1, 3)?.get(), expected)?);
+    assert!(rt; reads(alloc, growth(alloc, 1, 1)?.get(), r#"["true"]"#)?);
     Ok(())
 }
 
