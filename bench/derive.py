@@ -1,14 +1,15 @@
 #!/usr/bin/env python3
-"""Measures how fast the public proof checker takes steps, and how much memory a step of a proof file takes.
+"""Measures how fast the checker of the whole logic takes steps, and how much memory a step of a proof file takes.
 
     python3 bench/derive.py
 
 It copies the crates to a folder of its own and makes a program of `derive.txt` and one of `steps.txt` there, since the
-gate needn't prove them; that takes minutes, and more where this machine has kept no check of the crates below. The first program takes a derivation on a node of 10,000 formulas, in
-rounds of four steps: a cut, the parts of a conjunction, an exchange by an equation, and a closed node. Each round
-leaves the node one formula longer. The second one writes the text of a proof file with one derivation and reads it.
-For each size a program is run three times, and the shortest time, the peak memory, and how both grow as the size
-doubles are printed. What the start takes, with no step, stands before.
+gate needn't prove them. That takes minutes, and more where this machine has kept no check of the crates below. The
+first program takes a derivation on a node of 10,000 formulas, in rounds of four steps: a cut, the parts of a
+conjunction, an exchange by an equation, and a closed node. Each round leaves the node one formula longer. The second
+one writes the text of a proof file with one derivation and reads it. For each size a program is run three times, and
+the shortest time, the peak memory, and how both grow as the size doubles are printed. What the start takes, with no
+step, stands before.
 """
 
 import os
