@@ -2,7 +2,7 @@
 
 ghost use Rattle.std.specs.Prelude.{◌≡◌, IfOk, map};
 ghost use Rattle.rel_logic.specs.Equal.{same_trm};
-ghost use Rattle.rel_logic.specs.Syntax.{bound, sel, member, every, some};
+ghost use Rattle.rel_logic.specs.Syntax.{null, bound, sel, eq, member, is, every, some};
 ghost use Rattle.rel_logic.specs.View.{sort_of, trm_of, fml_of};
 ghost use Rattle.rel_encode.specs.Terms.{lifted};
 ghost use Rattle.rel_encode.specs.Joins.{is_verum};
@@ -44,6 +44,25 @@ pub(crate) fn some(alloc: Global, sort: Sort, f: Fol) -> Result<Fol, Memory>
     ensures { IfOk result (λ h. fml_of h ≡ some (sort_of sort) (fml_of f)) }
 {
     Ok(Fol::Exists(sort, Boxed::new(alloc, f)?))
+}
+
+pub(crate) fn is_null(t: &Term) -> Result<Fol, Memory>
+    ensures { IfOk result (λ f. fml_of f ≡ eq (trm_of t.now) null) }
+{
+    Ok(Fol::Eq(t.copy()?, Term::Null))
+}
+
+pub(crate) fn are_equal(t: &Term, u: &Term) -> Result<Fol, Memory>
+    ensures { IfOk result (λ f. fml_of f ≡ eq (trm_of t.now) (trm_of u.now)) }
+{
+    let (t, u) = both(t.copy(), u.copy())?;
+    Ok(Fol::Eq(t, u))
+}
+
+pub(crate) fn is_of_class(class: u32, t: &Term) -> Result<Fol, Memory>
+    ensures { IfOk result (λ f. fml_of f ≡ is class (trm_of t.now)) }
+{
+    Ok(Fol::Is(class, t.copy()?))
 }
 
 /// The bound reference of this number is a member of the region, which stands outside `k` quantifiers.

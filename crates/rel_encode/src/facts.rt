@@ -2,13 +2,15 @@
 
 ghost use Rattle.std.specs.Prelude.{◌≡◌, ◌++◌, [], ◌∷◌, if◌then◌else◌, OnOk, IfOk, map};
 ghost use Rattle.rel_lang.specs.View.{type_of, decl_of};
-ghost use Rattle.rel_logic.specs.Syntax.{Fml, ref_sort, bound, null, eq, sel, member, is, and, imp, every};
+ghost use Rattle.rel_logic.specs.Syntax.{Fml, ref_sort, bound, sel, member, is, and, imp, every};
 ghost use Rattle.rel_logic.specs.View.{trm_of, fml_of};
 ghost use Rattle.rel_encode.specs.Terms.{lifted};
 ghost use Rattle.rel_encode.specs.Facts.{is_a_variable, null_or_of_class, variable_facts, map_facts, facts_of_variables, facts_of_maps, basics, grow};
 ghost use Rattle.rel_encode.specs.View.{numbers_in, store_of};
 
-use crate::builders::{both_boxed, boxed, every, is_member, same_terms, subset, value_at};
+use crate::builders::{
+    both_boxed, boxed, every, is_member, is_null, is_of_class, same_terms, subset, value_at,
+};
 use crate::lifted::lifted;
 use crate::names::{Names, Variables};
 use crate::store::Store;
@@ -22,18 +24,6 @@ fn is_a_variable(t: &Term) -> bool
     ensures { result ≡ is_a_variable (trm_of t.now) }
 {
     matches!(t, Term::Var(_))
-}
-
-fn is_null(t: &Term) -> Result<Fol, Memory>
-    ensures { IfOk result (λ f. fml_of f ≡ eq (trm_of t.now) null) }
-{
-    Ok(Fol::Eq(t.copy()?, Term::Null))
-}
-
-fn is_of_class(class: u32, t: &Term) -> Result<Fol, Memory>
-    ensures { IfOk result (λ f. fml_of f ≡ is class (trm_of t.now)) }
-{
-    Ok(Fol::Is(class, t.copy()?))
 }
 
 fn is_in(t: &Term, g: &Term) -> Result<Fol, Memory>

@@ -12,7 +12,7 @@ ghost use Rattle.rel_encode.specs.Frame.{lists_global, kept_variables, outside_p
 ghost use Rattle.rel_encode.specs.View.{store_of, numbers_in};
 ghost use Rattle.rel_encode.specs.Changes.{AreListed, numbers_before, scope_before, store_before, effects_of};
 
-use crate::builders::{both_boxed, boxed, conj, every, is_member, same_terms, value_at};
+use crate::builders::{are_equal, both_boxed, boxed, conj, every, is_member, same_terms, value_at};
 use crate::names::{Names, Variables};
 use crate::store::Store;
 use crate::terms::term_outside;
@@ -48,13 +48,6 @@ fn listed(alloc: Global, writes: &List<Effect>) -> Result<Index<'_, bool>, Memor
         }
     }
     Ok(index)
-}
-
-fn are_equal(a: &Term, b: &Term) -> Result<Fol, Memory>
-    ensures { IfOk result (λ f. fml_of f ≡ eq (trm_of a.now) (trm_of b.now)) }
-{
-    let (a, b) = both(a.copy(), b.copy())?;
-    Ok(Fol::Eq(a, b))
 }
 
 /// Adds that a variable keeps its value, unless it is listed or the two terms are one.

@@ -16,7 +16,10 @@ ghost use Rattle.rel_encode.specs.View.{pair_store_of, numbers_in};
 ghost use Rattle.rel_encode.specs.Seen.{numbers_seen, scope_seen, now_seen, numbers_both, left_scope, right_scope, store_both, left_scope_under, right_scope_under, store_both_under};
 
 use crate::binders::{Binder, Binders};
-use crate::builders::{both_boxed, boxed, each_member, every, is_member, some, value_at};
+use crate::builders::{
+    are_equal, both_boxed, boxed, each_member, every, is_member, is_null, is_of_class, some,
+    value_at,
+};
 use crate::formulas::{each_of, formula, some_of};
 use crate::lifted::lifted;
 use crate::names::{Names, Variables};
@@ -132,12 +135,6 @@ fn related_regions(alloc: Global, p: &Term, g: &Term, h: &Term) -> Result<Fol, M
     Ok(Fol::And(left, right))
 }
 
-fn is_null(t: &Term) -> Result<Fol, Memory>
-    ensures { IfOk result (λ f. fml_of f ≡ eq (trm_of t.now) null) }
-{
-    Ok(Fol::Eq(t.copy()?, Term::Null))
-}
-
 fn both_null(alloc: Global, t: &Term, u: &Term) -> Result<Fol, Memory>
     ensures { IfOk result (λ f. fml_of f ≡ and (eq (trm_of t.now) null) (eq (trm_of u.now) null)) }
 {
@@ -157,13 +154,6 @@ fn related_references(alloc: Global, p: &Term, t: &Term, u: &Term) -> Result<Fol
 {
     let (null, pair) = both_boxed(alloc, both_null(alloc, t, u), are_paired(p, t, u))?;
     Ok(Fol::Or(null, pair))
-}
-
-fn are_equal(t: &Term, u: &Term) -> Result<Fol, Memory>
-    ensures { IfOk result (λ f. fml_of f ≡ eq (trm_of t.now) (trm_of u.now)) }
-{
-    let (t, u) = both(t.copy(), u.copy())?;
-    Ok(Fol::Eq(t, u))
 }
 
 /// The two terms, of the sort, have related values.
@@ -310,12 +300,6 @@ fn are_free(alloc: Global, p: &Term, a: &Term, b: &Term) -> Result<Fol, Memory>
 {
     let (left, right) = both_boxed(alloc, left_is_free(alloc, p, a), right_is_free(alloc, p, b))?;
     Ok(Fol::And(left, right))
-}
-
-fn is_of_class(class: u32, t: &Term) -> Result<Fol, Memory>
-    ensures { IfOk result (λ f. fml_of f ≡ is class (trm_of t.now)) }
-{
-    Ok(Fol::Is(class, t.copy()?))
 }
 
 /// The two references are of the class, and neither has a partner.
