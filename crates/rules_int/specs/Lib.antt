@@ -1,0 +1,9 @@
+pub mod Linear
+pub mod Table
+pub mod Products
+pub mod Weights
+pub mod Values
+pub mod Law
+pub mod Forms
+pub mod Entries
+pub mod Made
