@@ -1,3 +1,4 @@
 pub mod Sound
 pub mod Piles
 pub mod Taking
+pub mod Exact

@@ -18,6 +18,8 @@ use Rattle.rules_eq.specs.Table.{equality}
 use Rattle.rules_eq.specs.Law as equality_law
 use Rattle.rules_set.specs.Table.{regions}
 use Rattle.rules_set.specs.Law as regions_law
+use Rattle.rules_int.specs.Table.{integers}
+use Rattle.rules_int.specs.Law as integers_law
 use Rattle.rel_derive.specs.Rules.{otherwise, outcome_of_all, HasRoom, Moves, Runs, first_node, first_stack, IsAccepted}
 use Rattle.rel_derive.specs.Answers.{IsStuck, IsRoomFor, AreChildren}
 
@@ -34,6 +36,8 @@ either P (kids added) b x y = x
 
 promises : (n : Nod) (s : Stp) → IsSound n → Promises n (outcome_of_all n s)
 promises n s sound =
+    either (Promises n) (otherwise (otherwise (propositional n s) (equality n s)) (regions n s)) (integers n s)
+    (
     either (Promises n) (otherwise (propositional n s) (equality n s)) (regions n s)
     (
     either (Promises n) (propositional n s) (equality n s)
@@ -41,6 +45,8 @@ promises n s sound =
     (λ added e. (equality_law.loses_no_model n s added sound e, equality_law.adds_sorted n s added sound e))
     )
     (λ added e. (regions_law.loses_no_model n s added sound e, regions_law.adds_sorted n s added sound e))
+    )
+    (λ added e. (integers_law.loses_no_model n s added sound e, integers_law.adds_sorted n s added sound e))
 
 -- ---- lists of nodes
 

@@ -4,3 +4,4 @@ pub mod Answers
 pub mod Stack
 pub mod Laws
 pub mod Taken
+pub mod Outcomes

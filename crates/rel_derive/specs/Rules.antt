@@ -6,6 +6,7 @@ use Rattle.rules_table.specs.Nodes.{Stp, Addition, child, Outcome, not_mine, kid
 use Rattle.rules_table.specs.Table.{propositional}
 use Rattle.rules_eq.specs.Table.{equality}
 use Rattle.rules_set.specs.Table.{regions}
+use Rattle.rules_int.specs.Table.{integers}
 
 -- the first, unless the row is another theory's
 abbrev pub otherwise : Outcome → Outcome → Outcome
@@ -14,7 +15,7 @@ otherwise o p = o
 
 -- what a step comes to at a node, by the first theory that has its row
 abbrev pub outcome_of_all : Nod → Stp → Outcome
-outcome_of_all n s = otherwise (otherwise (propositional n s) (equality n s)) (regions n s)
+outcome_of_all n s = otherwise (otherwise (otherwise (propositional n s) (equality n s)) (regions n s)) (integers n s)
 
 -- the step is good at the node, with these children
 abbrev pub GoodStep : Nod → Stp → List Nod → Type 0

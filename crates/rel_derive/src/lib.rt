@@ -5,3 +5,4 @@ pub mod checker;
 pub mod laws;
 mod pile;
 mod theories;
+pub mod verdict;

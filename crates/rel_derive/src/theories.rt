@@ -8,6 +8,7 @@ ghost use Rattle.rel_derive.specs.Rules.{otherwise, outcome_of_all};
 use rel_list::Memory;
 use rel_logic::sequent::Node;
 use rules_eq::equality::Equality;
+use rules_int::integers::Integers;
 use rules_set::regions::Regions;
 use rules_table::propositional::Propositional;
 use rules_table::step::Step;
@@ -38,5 +39,6 @@ pub fn answer_of_all(alloc: Global, node: &Node, step: &Step) -> Result<Answer, 
 {
     let first = ask(Answer::NotMine, &Propositional, alloc, node, step)?;
     let second = ask(first, &Equality, alloc, node, step)?;
-    ask(second, &Regions, alloc, node, step)
+    let third = ask(second, &Regions, alloc, node, step)?;
+    ask(third, &Integers, alloc, node, step)
 }
