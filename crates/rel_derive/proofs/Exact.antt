@@ -1,14 +1,19 @@
 -- A step moves a stack in one way at most, so a list of steps has one outcome at most.
-use Rattle.std.proofs.Common.{◌≡◌, ℕ, zero, suc, ◌+◌, ◌<◌, List, [], ◌∷◌, ◌++◌, map, take, length, slice_get, Some, refl, sym, ap, subst, subst₂, ◌∙◌, take_all, arith}
+use Rattle.std.proofs.Common.{◌≡◌, ℕ, zero, suc, ◌+◌, ◌<◌, ◌≤◌, List, [], ◌∷◌, ◌++◌, map, take, length, slice_get, Some, Err, refl, sym, ap, subst, subst₂, ◌∙◌, take_all, arith}
 use Rattle.std.specs.List.{AllByRecursion}
+use Rattle.std.proofs.lemmas.List.{length-map}
 use Rattle.std.proofs.lemmas.Option.{slice_get_within}
 use Rattle.rel_logic.specs.Syntax.{Sqt, Nod}
 use Rattle.rel_logic.specs.Truth.{IsValid}
-use Rattle.rules_table.specs.Nodes.{Stp, Addition, child, kids, IsSound}
+use Rattle.rules_table.specs.Nodes.{Stp, child, kids, IsSound}
+use Rattle.rules_table.specs.View.{step_of}
+use Rattle.rules_table.specs.declared.step.Step.{Step}
 use Rattle.rel_derive.specs.declared.verdict.Outcome.{Outcome}
 use Rattle.rel_derive.specs.declared.verdict.Outcome.TheVariants.{Accepted, BadStep, OpenNodes}
 use Rattle.rel_derive.specs.Rules.{GoodStep, Moves, HasRoom, Runs, first_node, first_stack, IsAccepted}
-use Rattle.rel_derive.specs.Answers.{IsStuck}
+use Rattle.rel_derive.specs.Answers.{IsStuck, IsStepAnswer}
+use Rattle.rel_derive.specs.declared.checker.StepFault.{StepFault}
+use Rattle.rel_derive.specs.declared.checker.StepFault.TheVariants as Fault
 use Rattle.rel_derive.specs.Outcomes.{IsBadStep, LeavesOpen, IsOutcome}
 use Rattle.rel_derive.proofs.Sound.{accepted_sequents}
 
@@ -78,8 +83,8 @@ outcome_is_valid q steps o sound h e = accepted_sequents q steps sound (subst (I
 -- ---- a run that goes on
 
 run_step : (steps : List Stp) (a b c : List Nod) (s : Stp) → Runs a steps b → Moves b s c → AllByRecursion HasRoom c → Runs a (steps ++ s ∷ []) c
-run_step [] a b c s r m room = (c, (subst (λ x. Moves x s c) (sym r) m, (room, refl)))
-run_step (x ∷ steps) a b c s r m room = (r.0, (r.1, (r.2, run_step steps r.0 b c s r.3 m room)))
+run_step [] a b c s r m room = (c, subst (λ x. Moves x s c) (sym r) m, room, refl)
+run_step (x ∷ steps) a b c s r m room = (r.0, r.1, r.2, run_step steps r.0 b c s r.3 m room)
 
 take_next : (steps : List Stp) (k : ℕ) (s : Stp) → slice_get steps k ≡ Some s → take (suc k) steps ≡ take k steps ++ s ∷ []
 take_next [] k s e = cc
@@ -90,3 +95,12 @@ pub run_on : (steps : List Stp) (k : ℕ) (a b c : List Nod) (s : Stp) → slice
 run_on steps k a b c s e r m room =
     let next : suc k ≡ k + 1 = omega arith in
     subst (λ j. Runs a (take j steps) c) next (subst (λ ys. Runs a ys c) (sym (take_next steps k s e)) (run_step (take k steps) a b c s r m room))
+
+-- a run along all steps
+pub all_run : (items all : List Step) (k : ℕ) (a b : List Nod) → items ≡ all → length items ≤ k → Runs a (take k (map step_of items)) b → Runs a (map step_of all) b
+all_run items all k a b same past r =
+    let whole : take k (map step_of items) ≡ map step_of items = take_all k (map step_of items) (let long = length-map items step_of in omega (arith, past, long)) in
+    subst (λ ss. Runs a ss b) (whole ∙ ap (map step_of) same) r
+
+pub is_stuck : (before after : List Nod) (s : Stp) (f : StepFault) → f ≡ Fault.Bad → IsStepAnswer {U = Unit {0}} before s (Err f) after → IsStuck before s
+is_stuck before after s f bad h = let answer : IsStepAnswer {U = Unit {0}} before s (Err Fault.Bad) after = subst (λ e. IsStepAnswer {U = Unit {0}} before s (Err e) after) bad h in answer.1

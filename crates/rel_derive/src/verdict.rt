@@ -23,7 +23,7 @@ pub enum Outcome {
     OpenNodes(u64),
 }
 
-fn outcome_of(alloc: Global, sequent: Sequent, steps: &List<Step>) -> Result<Outcome, Memory>
+fn run_steps(alloc: Global, sequent: Sequent, steps: &List<Step>) -> Result<Outcome, Memory>
     requires sound { IsSound (first_node (sequent_of sequent)) }
     requires few { length steps.now < 2 ^ 32 }
     ensures { IfOk result (λ o. IsOutcome (sequent_of sequent) (map step_of steps.now) o) }
@@ -45,7 +45,7 @@ fn outcome_of(alloc: Global, sequent: Sequent, steps: &List<Step>) -> Result<Out
 }
 
 /// What the steps come to, from the node of the sequent. Where they are accepted, it is valid.
-pub fn outcome(alloc: Global, sequent: Sequent, steps: &List<Step>) -> Result<Outcome, Memory>
+pub fn outcome_of(alloc: Global, sequent: Sequent, steps: &List<Step>) -> Result<Outcome, Memory>
     requires sound { IsSound (first_node (sequent_of sequent)) }
     requires few { length steps.now < 2 ^ 32 }
     ensures outcome { IfOk result (λ o. IsOutcome (sequent_of sequent) (map step_of steps.now) o) }
@@ -53,5 +53,5 @@ pub fn outcome(alloc: Global, sequent: Sequent, steps: &List<Step>) -> Result<Ou
     // No other outcome fits.
     ensures only { IfOk result (λ o. (p : Outcomes) → IsOutcome (sequent_of sequent) (map step_of steps.now) p → p ≡ o) }
 {
-    outcome_of(alloc, sequent, steps)
+    run_steps(alloc, sequent, steps)
 }
