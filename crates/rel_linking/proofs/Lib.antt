@@ -7,11 +7,15 @@ pub mod FormsLists
 pub mod FormsScope
 pub mod FormsShape
 pub mod FormsUnit
+pub mod IntTerms
 pub mod Layouts
 pub mod Lengths
+pub mod Limits
 pub mod PlainUnits
 pub mod Related
 pub mod Runs
+pub mod Sorted
+pub mod SortsFrom
 pub mod Starts
 pub mod TrueBundles
 pub mod Views

@@ -3,3 +3,4 @@ pub mod Layout
 pub mod Obligation
 pub mod Parts
 pub mod Scope
+pub mod Sorted

@@ -13,6 +13,7 @@ use Rattle.rel_encode.specs.Terms.{Store}
 use Rattle.rel_linking.specs.Form.{Parts, IsStraight}
 use Rattle.rel_linking.specs.Parts.{AreJudged}
 use Rattle.rel_linking.specs.Obligation.{Walked, walk, obligation_of}
+use Rattle.rel_linking.specs.Sorted.{IsWellSorted}
 
 -- what the parts of a bundle stand for
 abbrev pub parts_of : UnitItem → Proc → UnitItem → Proc → Judgement → Parts
@@ -26,6 +27,7 @@ pub record IsObligationOf (b : Bundle) (q : Sequent) : Type 0 where
   pub parts : Parts
   pub straight : IsStraight b parts
   pub value : sequent_of q ≡ obligation_of parts
+  pub sorted : IsWellSorted (sequent_of q)
   pub enough : IsValid (sequent_of q) → IsTrueBundle b
 
 -- what is found for a bundle: its obligation, or that it isn't straight

@@ -1,5 +1,6 @@
 use Rattle.std.proofs.Common.{◌≡◌, length, arith}
-use Rattle.rel_linking.proofs.Answers.{three_are, both_few, none_numbered}
+use Rattle.rel_linking.proofs.Answers.{three_are, none_numbered}
+use Rattle.rel_linking.proofs.Limits.{both_few}
 use Rattle.rel_linking.proofs.obligation.Goals as goal
 
 pub of_three-requires-clause-numbers : goal.of_three-requires-clause-numbers
