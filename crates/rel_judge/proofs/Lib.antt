@@ -1,0 +1,5 @@
+mod Numbered
+mod FewSteps
+mod Sorted
+pub mod Verdicts
+pub mod Causes
