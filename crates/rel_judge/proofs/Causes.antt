@@ -30,7 +30,7 @@ use Rattle.rel_judge.specs.Verdict.{IsFaulty, IsRead, IsIllTyped, IsNotBuilt, Is
 
 -- ---- bytes that aren't read
 
-text_verdict : TextFault → Verdict
+abbrev text_verdict : TextFault → Verdict
 text_verdict (text_faults.NotUtf8 at) = NotUtf8 at
 text_verdict (text_faults.Lexical kind at) = Lexical kind at
 text_verdict (text_faults.Syntax at) = Syntax at
@@ -89,7 +89,7 @@ unread_or_read text v b h read = not_read text v b (of_text text v h) read
 
 -- ---- bundles that aren't judged
 
-back : F.Kind → TypeKind
+abbrev back : F.Kind → TypeKind
 back F.Twice = K.Twice
 back F.Unknown = K.Unknown
 back F.Missing = K.Missing
@@ -113,7 +113,7 @@ back_is K.OldHere = refl
 back_is K.NotCode = refl
 back_is K.WrongType = refl
 
-typing_of : Fault → Verdict
+abbrev typing_of : Fault → Verdict
 typing_of f = Typing (back f.kind) f.at
 
 record OfType (text : List ℕ) (v : Verdict) : Type 0 where
@@ -191,7 +191,7 @@ module _ (text : List ℕ) where
 
 -- ---- proof files
 
-proof_verdict : ProofFault → Verdict
+abbrev proof_verdict : ProofFault → Verdict
 proof_verdict proof_faults.NotJson = NotJson
 proof_verdict (proof_faults.Malformed spots.File) = MalformedFile
 proof_verdict (proof_faults.Malformed (spots.Proof p)) = MalformedProof p
@@ -199,7 +199,7 @@ proof_verdict (proof_faults.Malformed (spots.Step p s)) = MalformedStep p s
 proof_verdict (proof_faults.TooLong p) = TooLong p
 proof_verdict proof_faults.Memory = TooLargeProof
 
-outcome_verdict : Parts → Outcome → Verdict
+abbrev outcome_verdict : Parts → Outcome → Verdict
 outcome_verdict k outcomes.Accepted = Yes (0 ∷ 0 ∷ 1 ∷ [])
 outcome_verdict k (outcomes.BadStep s) = BadStep 0 s 2 k.judgement.at
 outcome_verdict k (outcomes.OpenNodes n) = OpenNodes n 0 2 k.judgement.at
