@@ -8,4 +8,6 @@ mod files;
 mod lists;
 mod logic;
 mod proof_files;
+mod report;
 mod tokens;
+mod verdicts;
