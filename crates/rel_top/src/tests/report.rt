@@ -1,6 +1,6 @@
 //! The lines of each verdict.
 
-ghost use Rattle.std.specs.Prelude.{◌<◌, ◌^◌, length, IsTrue};
+ghost use Rattle.std.specs.Prelude.{IsTrue};
 ghost use Rattle.rel_lang.specs.View.{bundle_of};
 ghost use Rattle.rel_report.specs.Lines.{IsAbout};
 
