@@ -1,5 +1,5 @@
 -- The causes of verdicts, and that each cause has one verdict.
-use Rattle.std.proofs.Common.{◌≡◌, ◌≢◌, ◌⊎◌, inl, inr, ℕ, ◌<◌, ◌≤◌, List, [], ◌∷◌, length, Some, None, Option, Result, Ok, Err, refl, sym, ap, subst, ◌∙◌, arith}
+use Rattle.std.proofs.Common.{◌≡◌, ◌≢◌, ◌⊎◌, inl, inr, ℕ, ◌<◌, ◌≤◌, List, [], ◌∷◌, length, Some, None, Option, Ok, Err, refl, sym, ap, subst, ◌∙◌, arith}
 use Rattle.rel_lang.specs.Syntax.{Bundle}
 use Rattle.rel_lang.specs.declared.fault.TypeKind.{TypeKind}
 use Rattle.rel_lang.specs.declared.fault.TypeKind.TheVariants as K
@@ -26,7 +26,7 @@ use Rattle.rel_report.specs.declared.verdict.Verdict.{Verdict}
 use Rattle.rel_report.specs.declared.verdict.Verdict.TheVariants.{TooLargeBundle, NotUtf8, Lexical, Syntax, TooDeep, TooMany, Typing, NotBuilt, TooLargeProof, NotJson, MalformedFile, MalformedProof, MalformedStep, TooLong, ProofCount, BadStep, OpenNodes, Yes}
 use Rattle.rel_judge.specs.declared.verdict.TheConstants.{BUNDLE_LIMIT, PROOF_LIMIT}
 use Rattle.rel_judge.specs.Laws.{VerdictsAreUnique}
-use Rattle.rel_judge.specs.Verdict.{IsFaulty, IsRead, IsIllTyped, IsNotBuilt, IsBuilt, IsUnreadAs, IsRefusedAs, IsUnreadable, Says, HasCount, HasOutcome, IsInJudgement, IsJudgedAs}
+use Rattle.rel_judge.specs.Verdict.{IsFaulty, IsRead, IsIllTyped, IsNotBuilt, IsBuilt, IsUnreadAs, IsRefusedAs, IsUnreadable, Says, HasOutcome, IsInJudgement, IsJudgedAs}
 
 -- ---- bytes that aren't read
 

@@ -1,6 +1,5 @@
 -- The classes and the fields that typing finds are those that the encoding numbers.
 use Rattle.std.proofs.Common.{◌≡◌, List, [], ◌∷◌, map, refl, sym, ap, subst, ◌∙◌}
-use Rattle.rel_lang.specs.Syntax.{Word}
 use Rattle.rel_lang.specs.State.{ClassField, Tables, tables_of}
 use Rattle.rel_lang.specs.View.{bundle_of}
 use Rattle.rel_lang.specs.declared.bundle.Bundle.{Bundle}

@@ -1,5 +1,5 @@
 -- The node of a well sorted sequent is sound.
-use Rattle.std.proofs.Common.{ℕ, ◌+◌, ◌<◌, ◌^◌, IsTrue, List, length, arith}
+use Rattle.std.proofs.Common.{IsTrue, arith}
 use Rattle.std.proofs.lemmas.List.{length_push}
 use Rattle.std.proofs.lemmas.List.Elements.{All-push}
 use Rattle.rel_logic.specs.Syntax.{Sqt, no}

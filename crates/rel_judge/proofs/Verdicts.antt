@@ -1,9 +1,8 @@
 -- From what the parts of a judgement answer to the verdict.
-use Rattle.std.proofs.Common.{◌≡◌, ◌≢◌, ℕ, ◌<◌, ◌≤◌, List, [], ◌∷◌, length, get_or, map, Option, Some, None, Result, Ok, Err, IfOk, IfErr, refl, sym, ap, subst, ◌∙◌, arith}
+use Rattle.std.proofs.Common.{◌≡◌, ◌≢◌, ℕ, ◌≤◌, List, [], ◌∷◌, length, get_or, map, Option, Some, None, Result, Ok, Err, IfOk, IfErr, refl, sym, ap, subst, ◌∙◌, arith}
 use Rattle.std.proofs.lemmas.List.{length-map}
 use Rattle.std.proofs.lemmas.Result.{IfOk-weaker}
-use Rattle.rel_lang.specs.Refusal.{Fits}
-use Rattle.rel_lang.specs.Syntax.{Item, OfJudgement, Judgement, Bundle}
+use Rattle.rel_lang.specs.Syntax.{OfJudgement, Judgement, Bundle}
 use Rattle.rel_lang.specs.View.{item_of, bundle_of, judgement_of}
 use Rattle.rel_lang.specs.declared.bundle.Bundle as B
 use Rattle.rel_lang.specs.declared.bundle.Item as I
@@ -36,7 +35,7 @@ use Rattle.rel_proofio.specs.declared.fault.ProofFault.TheVariants as proof_faul
 use Rattle.rel_proofio.specs.declared.fault.Spot.TheVariants as spots
 use Rattle.rel_report.specs.declared.verdict.Verdict.{Verdict}
 use Rattle.rel_report.specs.declared.verdict.Verdict.TheVariants.{TooLargeBundle, NotUtf8, Lexical, Syntax, TooDeep, TooMany, Typing, NotBuilt, TooLargeProof, NotJson, MalformedFile, MalformedProof, MalformedStep, TooLong, ProofCount, BadStep, OpenNodes, Yes}
-use Rattle.rel_judge.specs.Verdict.{IsRead, IsUnreadAs, IsRefusedAs, Says, IsInJudgement}
+use Rattle.rel_judge.specs.Verdict.{IsRead, IsUnreadAs, IsRefusedAs, IsInJudgement}
 use Rattle.rel_judge.specs.declared.verdict.Ready.{Ready}
 use Rattle.rel_judge.specs.declared.verdict.Stop.{Stop}
 use Rattle.rel_judge.specs.declared.verdict.Stop.TheVariants as stops

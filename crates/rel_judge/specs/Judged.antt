@@ -1,6 +1,5 @@
 -- What the parts of a judgement say, each under a word of its own.
 use Rattle.std.specs.Prelude.{◌≡◌, ℕ, ◌<◌, ◌^◌, List, length}
-use Rattle.std.specs.List.{AllByRecursion}
 use Rattle.rel_lang.specs.Syntax.{Bundle}
 use Rattle.rel_decls.specs.declared.fault.TextFault.{TextFault}
 use Rattle.rel_linking.specs.Form.{Parts, IsStraight}

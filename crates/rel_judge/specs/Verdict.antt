@@ -1,7 +1,7 @@
 -- The verdict on the bytes of a bundle and of a proof file: each comes exactly for its cause.
 use Rattle.std.specs.Prelude.{◌≡◌, ◌≢◌, ℕ, ◌<◌, ◌≤◌, List, [], ◌∷◌, length, Some, None, Ok, Err}
 use Rattle.rel_lang.specs.Refusal.{Fits}
-use Rattle.rel_lang.specs.Syntax.{Item, OfClass, OfInterface, OfModule, OfUnit, OfClient, OfJudgement, OfPair, Bundle}
+use Rattle.rel_lang.specs.Syntax.{Bundle}
 use Rattle.rel_lang.specs.Text.{StandsFor}
 use Rattle.rel_decls.specs.Faults.{HasFault}
 use Rattle.rel_decls.specs.declared.fault.TextFault.{TextFault}

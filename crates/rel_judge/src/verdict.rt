@@ -1,6 +1,6 @@
 //! Judges the text of a bundle, and then the proof file for it.
 
-ghost use Rattle.std.specs.Prelude.{◌≡◌, ◌≢◌, ◌<◌, ◌≤◌, ◌^◌, ◌∷◌, [], length, map, slice_get, Some, IfOk, IfErr};
+ghost use Rattle.std.specs.Prelude.{◌≡◌, ◌≢◌, ◌<◌, ◌≤◌, ◌^◌, ◌∷◌, [], length, map, IfOk, IfErr};
 ghost use Rattle.std.specs.List.{AllByRecursion};
 ghost use Rattle.rel_lang.specs.Refusal.{Fits};
 ghost use Rattle.rel_lang.specs.State.{tables_of};
@@ -10,7 +10,7 @@ ghost use Rattle.rel_encode.specs.Numbers.{numbers_of, numbered};
 ghost use Rattle.rel_linking.specs.Scope.{IsAnswer};
 ghost use Rattle.rel_types.specs.Items.{first_fault};
 ghost use Rattle.rules_table.specs.View.{step_of};
-ghost use Rattle.rel_judge.specs.Verdict.{IsUnreadAs, IsRefusedAs, IsRead, IsUnreadable};
+ghost use Rattle.rel_judge.specs.Verdict.{IsUnreadAs, IsRefusedAs, IsRead};
 ghost use Rattle.rel_judge.specs.Judged.{StopsWith, IsVerdictOn, Refuses, IsObligation, IsReadyFor, IsShort};
 ghost use Rattle.rel_judge.specs.Judged.{IsVerdictOnProof, IsVerdictOnDerivations, IsPlace, IsVerdictOnOutcome, IsVerdictOnProofFile};
 

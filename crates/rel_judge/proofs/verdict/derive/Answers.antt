@@ -1,6 +1,4 @@
-use Rattle.std.proofs.Common.{map, subst, sym}
 use Rattle.rel_lang.specs.View.{bundle_of}
-use Rattle.rules_table.specs.View.{step_of}
 use Rattle.rel_judge.proofs.Verdicts.{several, sound_node, three_items, single}
 use Rattle.rel_judge.proofs.verdict.derive.Goals as goal
 

@@ -1,6 +1,4 @@
-use Rattle.std.proofs.Common.{map}
 use Rattle.rel_lang.specs.View.{bundle_of}
-use Rattle.rules_table.specs.View.{step_of}
 use Rattle.rel_judge.proofs.FewSteps.{few_steps}
 use Rattle.rel_judge.proofs.Verdicts.{said, unreadable}
 use Rattle.rel_judge.proofs.verdict.judge.Goals as goal

@@ -1,4 +1,3 @@
-use Rattle.std.proofs.Common.{sym, subst}
 use Rattle.rel_lang.specs.View.{bundle_of}
 use Rattle.rel_judge.proofs.Verdicts.{told_accepted, told_bad_step, told_open_nodes}
 use Rattle.rel_judge.proofs.verdict.told.Goals as goal
